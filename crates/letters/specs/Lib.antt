@@ -1,0 +1,10 @@
+pub mod Refusals
+pub mod Names
+pub mod Letters
+pub mod Order
+pub mod Checks
+pub mod Numbers
+pub mod Forms
+pub mod Characters
+pub mod Texts
+pub mod Jobs
