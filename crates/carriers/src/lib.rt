@@ -1,0 +1,1 @@
+// Carriers: what brings letters from seat to seat.
