@@ -7,16 +7,11 @@ The last line is `N passed, M failed`. The status is 1 where any case failed,
 and 2 where there is no program to run.
 """
 
-import fcntl
 import os
 import random
 import re
 import shutil
-import subprocess
 import sys
-import termios
-import threading
-import time
 from concurrent.futures import ThreadPoolExecutor
 from functools import partial
 from pathlib import Path
@@ -26,62 +21,16 @@ TESTS = Path(__file__).resolve().parent
 sys.path[:0] = [str(TESTS), str(TESTS.parent / "tools")]
 import random_letters as some
 from letters import records_of_lines
+from listing_examples import EXAMPLES
 from record_model import RECORD_SIZE, listing, read_file, record_of
+from run_program import Program
 
 SEED = 20
 WORKERS = 2
-PATIENCE = 60  # seconds that the program may take for one input
 MOST_REPORTS = 10
 MOST_GROWTH = 8 * 1024  # KiB of memory
 MANY, FEW = 100_000, 1_000  # letters
 KINDS = ("text", "job")
-PROGRAM = ""
-
-# Running the program
-
-
-def run(arguments, data):
-    done = subprocess.run([PROGRAM, *arguments], input=data, capture_output=True, timeout=PATIENCE)
-    return done.returncode, done.stdout, done.stderr
-
-
-def run_fed(kind, feed):
-    """Runs the program on what feed(pipe, process) writes to its input."""
-    process = subprocess.Popen([PROGRAM, kind], bufsize=0, stdin=subprocess.PIPE,
-                               stdout=subprocess.PIPE, stderr=subprocess.DEVNULL)
-    output = bytearray()
-    reader = threading.Thread(target=lambda: output.extend(process.stdout.readall()))
-    watchdog = threading.Timer(PATIENCE, process.kill)
-    reader.start()
-    watchdog.start()
-    try:
-        feed(process.stdin.fileno(), process)
-    except BrokenPipeError:
-        pass  # after a fault it reads no further
-    finally:
-        process.stdin.close()
-        reader.join()
-        process.stdout.close()
-        status = process.wait()
-        watchdog.cancel()
-    return status, bytes(output)
-
-
-def write_all(pipe, data):
-    rest = memoryview(data)
-    while rest:
-        rest = rest[os.write(pipe, rest):]
-
-
-def wait_until_read(pipe):
-    """Waits until the program took all that is in the pipe, or a moment at most."""
-    waiting = bytearray(4)
-    for _ in range(500):
-        fcntl.ioctl(pipe, termios.FIONREAD, waiting)
-        if not any(waiting):
-            return
-        time.sleep(0.0001)
-
 
 # Comparing: each comparison answers None, or what went wrong
 
@@ -108,118 +57,52 @@ def difference(kind, data, expected, status, output):
             f"  line {at}: expected {short(wanted)}\n  line {at}:      got {short(got)}")
 
 
-def compare(kind, data, expected=None):
+def compare(program, kind, data, expected=None):
     expected = expected or expected_listing(kind, data)
-    status, output, _ = run([kind], data)
+    status, output, _ = program.run([kind], data)
     return difference(kind, data, expected, status, output)
 
 
-def compare_in_pieces(kind, data, sizes):
-    """The file comes in pieces of these sizes, each read before the next is written."""
-    def feed(pipe, process):
-        at = turn = 0
-        while at < len(data):
-            size = sizes[turn % len(sizes)]
-            write_all(pipe, data[at:at + size])
-            wait_until_read(pipe)
-            at, turn = at + size, turn + 1
-    return difference(kind, data, expected_listing(kind, data), *run_fed(kind, feed))
+def compare_in_pieces(program, kind, data, sizes):
+    return difference(kind, data, expected_listing(kind, data), *program.run_in_pieces([kind], data, sizes))
 
 
-def compare_endless(kind, data):
-    """After a fault the program ends, however much input is still to come."""
-    all_written = []
-    def feed(pipe, process):
-        write_all(pipe, data + bytes(16 << 20))
-        all_written.append(True)
-    wrong = difference(kind, data, expected_listing(kind, data), *run_fed(kind, feed))
-    return wrong or (f"{kind}: it read 16 MiB on after a fault" if all_written else None)
+def compare_end(program, kind, data):
+    """After a fault the program reads no further, however much is still to come."""
+    status, output, read_on = program.run_until_end([kind], data + bytes(16 << 20))
+    wrong = difference(kind, data, expected_listing(kind, data), status, output)
+    return wrong or (f"{kind}: it read 16 MiB on after a fault" if read_on else None)
 
 
-def peak_memory(data):
-    """The peak in KiB up to where the program has read all of the data.
-
-    It comes from the program's entry in /proc: the peak that os.wait4 tells
-    has the size of the process that started the program mixed in."""
-    peaks = []
-    def feed(pipe, process):
-        write_all(pipe, data)
-        wait_until_read(pipe)
-        peaks.append(int(re.search(r"VmHWM:\s*(\d+) kB", Path(f"/proc/{process.pid}/status").read_text())[1]))
-    run_fed("text", feed)
-    return peaks[0]
-
-
-def compare_memory(data):
-    few, many = peak_memory(data[:FEW * RECORD_SIZE]), peak_memory(data)
+def compare_memory(program, data):
+    few, many = (program.peak_memory(["text"], data[:RECORD_SIZE * letters]) for letters in (FEW, MANY))
     told = f"peak memory: {few} KiB for {FEW} letters, {many} KiB for {MANY} letters"
     print(told)
     return None if many <= few + MOST_GROWTH else told
 
 
-def compare_wrong_use(data, arguments):
-    status, output, error = run(arguments, data)
+def compare_wrong_use(program, data, arguments):
+    status, output, error = program.run(arguments, data)
     one_line = re.fullmatch(rb"[^\n]*\S[^\n]*\n", error)
     if status == 1 and output == b"" and one_line and b"text" in error and b"job" in error:
         return None
     return f"arguments {arguments}: status {status}, output {short(output)}, error {short(error)}"
 
 
-def compare_sample(name, kind):
+def compare_sample(program, name, kind):
     """The sample's records are those of its readable lines, and are listed right."""
     data = (TESTS / "samples" / f"{name}.letters").read_bytes()
     lines = (TESTS / "samples" / f"{name}.txt").read_bytes().split(b"\n")
     if records_of_lines(lines) != data:
         return f"{name}.letters is not what tools/letters.py makes of {name}.txt"
-    return compare(kind, data)
+    return compare(program, kind, data)
 
 
-def compare_damaged_sample():
+def compare_damaged_sample(program):
     data = (TESTS / "samples" / "damaged.letters").read_bytes()
-    return compare("job", data, listing(data[:3 * RECORD_SIZE], "job").replace(b"3 letters", b"3 bad 36\n3 letters"))
+    good = listing(data[:3 * RECORD_SIZE], "job").removesuffix(b"3 letters\n")
+    return compare(program, "job", data, good + b"3 bad 36\n3 letters\n")
 
-
-# Examples written out by hand: kind, the file in hex, and the listing
-
-ADD_7 = "0100" + 15 * "0000" + "00020500" + "0107000000" + 55 * "00"
-STRIKE_0_1 = "01000100" + 14 * "0000" + "01020400" + "02000100" + 56 * "00"
-ONE = "0100" + 15 * "0000"  # a stamp
-ONES = "1,0,0,0,0,0,0,0,0,0,0,0,0,0,0,0"
-LISTED = "0 0.1 1,0,0,0,0,0,0,0,0,0,0,0,0,0,0,0 add 7\n1 1.1 1,1,0,0,0,0,0,0,0,0,0,0,0,0,0,0 strike 0.1\n"
-EXAMPLES = (
-    ("job", "", "0 letters\n"),
-    ("text", "", "0 letters\n"),
-    ("job", ADD_7 + STRIKE_0_1, LISTED + "2 letters\n"),
-    ("job", ADD_7 + STRIKE_0_1 + ONE + "00010000" + 60 * "00" + ADD_7, LISTED + "2 bad 33\n2 letters\n"),
-    ("job", ADD_7 + STRIKE_0_1 + "01", LISTED + "2 bad 1\n2 letters\n"),
-    ("job", ONE + "00020500" + "0178563412" + 55 * "00", f"0 0.1 {ONES} add 305419896\n1 letters\n"),
-    ("job", ONE + "00020500" + "01ffffffff" + 55 * "00", f"0 0.1 {ONES} add 4294967295\n1 letters\n"),
-    ("job", ONE + "00020400" + "020fffff" + 56 * "00", f"0 0.1 {ONES} strike 15.65535\n1 letters\n"),
-    ("job", ONE + "00020400" + "02030001" + 56 * "00", f"0 0.1 {ONES} strike 3.256\n1 letters\n"),
-    ("text", ONE + "00010200" + "6869" + 58 * "00", f"0 0.1 {ONES} text hi\n1 letters\n"),
-    ("text", ONE + "00010000" + 60 * "00", f"0 0.1 {ONES} text \n1 letters\n"),
-    ("text", ONE + "00010300" + "207e20" + 57 * "00", f"0 0.1 {ONES} text  ~ \n1 letters\n"),
-    ("text", ONE + "00013c00" + 60 * "41", f"0 0.1 {ONES} text " + 60 * "A" + "\n1 letters\n"),
-    ("text", "00010200" + 13 * "0000" + "ffff" + "0f010100" + "21" + 59 * "00",
-     "0 15.65535 256,2,0,0,0,0,0,0,0,0,0,0,0,0,0,65535 text !\n1 letters\n"),
-    ("text", 96 * "00", "0 bad 0\n0 letters\n"),
-    ("text", 95 * "00", "0 bad 95\n0 letters\n"),
-    ("text", 96 * "ff", "0 bad 32\n0 letters\n"),
-    ("text", ONE + "03ffffff" + 60 * "ff", "0 bad 6\n0 letters\n"),
-    ("text", ONE + "00ffffff" + 60 * "ff", "0 bad 33\n0 letters\n"),
-    ("text", ONE + "00013dff" + 60 * "ff", "0 bad 34\n0 letters\n"),
-    ("text", ONE + "00010101" + 60 * "ff", "0 bad 35\n0 letters\n"),
-    ("text", ONE + "00010300" + "68690a" + 57 * "ff", "0 bad 38\n0 letters\n"),
-    ("text", ONE + "00010300" + "686921" + "20" + 56 * "00", "0 bad 39\n0 letters\n"),
-    ("text", ONE + "00010300" + "686921" + 56 * "00" + "01", "0 bad 95\n0 letters\n"),
-    ("job", ONE + "00020600" + "0107000000" + 55 * "00", "0 bad 34\n0 letters\n"),
-    ("job", ONE + "00020500" + "0200010000" + 55 * "00", "0 bad 36\n0 letters\n"),
-    ("job", ONE + "00020400" + "01000100" + 56 * "00", "0 bad 36\n0 letters\n"),
-    ("job", ONE + "00020400" + "02100000" + 56 * "ff", "0 bad 37\n0 letters\n"),
-    ("job", ONE + "00020400" + "02000000" + 56 * "ff", "0 bad 38\n0 letters\n"),
-    ("job", ONE + "00020400" + "02000100" + "00000001" + 52 * "ff", "0 bad 43\n0 letters\n"),
-    ("job", ONE + "00020500" + "0107000000" + "01" + 54 * "00", "0 bad 41\n0 letters\n"),
-)
 
 # The classes of cases: each gives a comparison and its arguments, again and again
 
@@ -235,6 +118,14 @@ def one_change(rng, shape, change):
 
 def one_byte(rng, shape, place, value):
     return one_change(rng, shape, lambda rng, record: record.__setitem__(place, value))
+
+
+def examples(rng):
+    return ((compare, kind, bytes.fromhex(data), lines.encode()) for kind, data, lines in EXAMPLES)
+
+
+def samples(rng):
+    return (compare_sample, "jobs", "job"), (compare_sample, "texts", "text"), (compare_damaged_sample,)
 
 
 def good_files(kind, rng):
@@ -293,15 +184,14 @@ def other_kind(rng):
 
 
 def mixed_kinds(rng):
-    return ((compare, KINDS[turn % 2], b"".join(some.record(rng, rng.choice(KINDS)) for _ in range(6))) for turn in range(100))
+    for turn in range(100):
+        records = [some.record(rng, rng.choice(KINDS)) for _ in range(rng.randint(2, 6))]
+        yield compare, KINDS[turn % 2], b"".join(records)
 
 
 def random_bytes(rng):
-    return ((compare, KINDS[turn % 2], rng.randbytes(pick_length(rng))) for turn in range(100))
-
-
-def pick_length(rng):
-    return some.pick(rng, (95, 96, 97, 192), 0, 600)
+    for turn in range(100):
+        yield compare, KINDS[turn % 2], rng.randbytes(some.pick(rng, (95, 96, 97, 192), 0, 600))
 
 
 def nearly_records(rng):
@@ -333,7 +223,7 @@ def pieces(rng):
 
 
 def endless(rng):
-    return ((compare_endless, kind, some.file(rng, kind) + bytes(RECORD_SIZE)) for kind in KINDS)
+    return ((compare_end, kind, some.file(rng, kind) + bytes(RECORD_SIZE)) for kind in KINDS)
 
 
 def wrong_uses(rng):
@@ -349,8 +239,8 @@ def large_files(rng):
 
 
 CLASSES = {
-    "examples by hand": lambda rng: ((compare, kind, bytes.fromhex(data), lines.encode()) for kind, data, lines in EXAMPLES),
-    "samples": lambda rng: ((compare_sample, "jobs", "job"), (compare_sample, "texts", "text"), (compare_damaged_sample,)),
+    "examples by hand": examples,
+    "samples": samples,
     "good text files": partial(good_files, "text"),
     "good job files": partial(good_files, "job"),
     "poster 16 to 255": wrong_posters,
@@ -358,8 +248,8 @@ CLASSES = {
     "kind changed": partial(changes, some.set_kind, (TEXT, ADD, STRIKE)),
     "length changed": lengths,
     "byte 35 changed": partial(changes, some.set_zero, (TEXT, ADD)),
-    "text byte changed": text_bytes,
-    "job byte changed": partial(changes, some.set_body, (ADD, STRIKE)),
+    "each text byte changed": text_bytes,
+    "body byte changed": partial(changes, some.set_body, (TEXT, ADD, STRIKE)),
     "struck poster changed": partial(changes, some.set_struck_poster, (STRIKE,)),
     "struck number changed": partial(changes, some.set_struck_number, (STRIKE,)),
     "first padding changed": partial(changes, some.set_first_padding, (SHORT, ADD, STRIKE)),
@@ -381,24 +271,23 @@ CLASSES = {
 }
 
 
-def answer(case):
+def answer(program, case):
     comparison, *arguments = case
     try:
-        return comparison(*arguments)
+        return comparison(program, *arguments)
     except Exception as error:
         return f"{type(error).__name__}: {short(str(error))}"
 
 
 def main():
-    global PROGRAM
-    PROGRAM = shutil.which(os.path.abspath(sys.argv[1])) if len(sys.argv) == 2 else None
-    if not PROGRAM:
-        print("expected one argument: the path of the program listing, ready to be run", file=sys.stderr)
+    path = os.path.abspath(sys.argv[1]) if len(sys.argv) == 2 else ""
+    if not shutil.which(path):
+        print(f"expected the path of the program to compare; '{path}' is none that can be run", file=sys.stderr)
         sys.exit(2)
     passed = failed = 0
     with ThreadPoolExecutor(WORKERS) as pool:
         for name, cases in CLASSES.items():
-            answers = list(pool.map(answer, cases(random.Random(f"{SEED} {name}"))))
+            answers = list(pool.map(partial(answer, Program(path)), cases(random.Random(f"{SEED} {name}"))))
             complaints = [(index, wrong) for index, wrong in enumerate(answers) if wrong]
             for index, wrong in complaints[:max(0, MOST_REPORTS - failed)]:
                 print(f"FAILED: {name}, seed {SEED}, case {index}: {wrong}")

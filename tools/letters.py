@@ -7,8 +7,9 @@
     strike 1 1,1,0 0.1           a job struck: the struck letter's name
 
 After the kind come the poster and the stamp; entries left out at the stamp's
-end are 0. Empty lines and lines that begin with # are passed over. At a bad
-line nothing is written, and the error names the line.
+end are 0. Empty lines and lines that begin with # are passed over. A file that
+`listing` can list has texts only, or adds and strikes only. At a bad line
+nothing is written, and the error names the line.
 """
 
 import re

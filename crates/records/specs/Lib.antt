@@ -1,0 +1,4 @@
+pub mod Buffers
+pub mod Records
+pub mod Reading
+pub mod Readers

@@ -1,0 +1,6 @@
+// Letters as records of 96 bytes, and files of them.
+mod bytes;
+pub mod fault;
+pub mod reader;
+pub mod record;
+mod stamps;
