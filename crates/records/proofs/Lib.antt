@@ -4,3 +4,6 @@ pub mod Headers
 pub mod Parts
 pub mod RoundTrip
 pub mod Finding
+pub mod Faults
+pub mod Filing
+pub mod Loading

@@ -4,26 +4,26 @@ use mathlib.Core.Bool.{true, false}
 use mathlib.Core.List.{List}
 use Prim.Native.Nat.{ℕ, _+_, _-_, _*_, _<_, _≤_}
 use native.Mathlib.Omega.{arith}
-use lib.Dec.{leb}
+use lib.Dec.{leb, ltb}
 use lib.ListN.{length, getD, take}
 use Rattle.std.specs.declared.option.Option.{Option}
 use Rattle.std.specs.declared.option.Option.the-variants.{Some, None}
 use Rattle.std.specs.declared.result.Result.{Result}
 use Rattle.std.specs.declared.result.Result.the-variants.{Ok, Err}
 use Rattle.std.proofs.shelf.Lists.{length-take-le}
-use Rattle.std.proofs.shelf.Tests.{le-leb, lt-leb, leb-true}
+use Rattle.std.proofs.shelf.Tests.{le-leb, lt-leb, lt-ltb, leb-true}
 use Rattle.letters.specs.declared.letter.Letter.{Letter}
 use Rattle.letters.specs.declared.stamp.Stamp.{Stamp}
 use Rattle.letters.specs.Checks.{check, first-failing}
 use Rattle.letters.specs.Forms.{Form, Lawful, body-space}
-use Rattle.letters.specs.Letters.{Parts, parts, parts-of, entry-at}
+use Rattle.letters.specs.Letters.{Parts, parts, parts-of, entry-at, letter-check}
 use Rattle.letters.specs.Numbers.{number-16}
 use Rattle.letters.proofs.Checks.{passed, some-none}
 use Rattle.records.specs.Records.{body-part, first-of, is-zero, kind-byte, length-byte, padding, parts-record, parts-written, poster-byte, record-of, record-size, stamp-bytes, stamp-of, wrong-byte, wrong-front, wrong-header}
 use Rattle.records.specs.Reading.{Begins, Left-by, Undoes, parts-left, read-answer}
 use Rattle.records.proofs.Entries.{paired-written, number-front}
 use Rattle.records.proofs.Headers.{Right-header, header-right, right-header}
-use Rattle.records.proofs.Parts.{blank-is, body-is, kind-is, length-is, padding-is, parts-length, poster-is, stamp-is, zeros-right}
+use Rattle.records.proofs.Parts.{blank-is, body-is, kind-is, length-is, padding-is, parts-length, poster-is, record-back, stamp-is, zeros-right}
 
 pub first-none : (start : ℕ) (a later : Option ℕ) → first-of start a later ≡ None → (a ≡ None) × (later ≡ None)
 first-none start None later e = (refl, e)
@@ -66,6 +66,17 @@ module _ {B : Type 0} (form : Form B) (laws : Lawful form) where
       ∙ zeros-right (36 + length-byte bs) (body-space - length (form .bytes (m .body))) in
       rw (head, inner, pad)
 
+  -- bytes in which nothing is wrong are the record of the parts that are read from them
+  pub read-back : (p : Parts B) (bs : List ℕ) → length bs ≡ record-size → wrong-byte form bs ≡ None
+      → stamp-bytes (p .stamp) ≡ take 32 bs → p .poster ≡ poster-byte bs → form .kind (p .body) ≡ kind-byte bs
+      → form .bytes (p .body) ≡ body-part bs → parts-record form p ≡ bs
+  read-back p bs size right stamp poster kind body =
+      let head = first-none 0 (wrong-header form bs) _ right in
+      let inner = first-none 36 (form .wrong (kind-byte bs) (body-part bs)) _ (head .1) in
+      let header : Right-header form bs = right-header form bs (head .0) in
+      let short : length-byte bs ≤ body-space = laws .short (kind-byte bs) (length-byte bs) (header .sized) in
+      record-back form p bs size header short stamp poster kind body (inner .1)
+
   -- the parts that a record writes are those of which it is the record
   pub written-back : (p : Parts B) → length (p .stamp .entries) ≡ 16 → parts-written form (parts-record form p) ≡ p
   written-back p sixteen =
@@ -91,6 +102,17 @@ module _ {B : Type 0} (form : Form B) (laws : Lawful form) where
       number-front (p .stamp .entries) bs (p .poster) stamp (omega arith) seated in
       let counted : 0 < number-16 (2 * p .poster) bs = subst (λ s. 0 < number-16 (2 * s) bs) seat (header .counted) in
       (record { stamp = p .stamp; poster = p .poster; body = p .body; sized = sixteen; seated = seated; counted = omega arith }, refl)
+
+  -- and can be made one
+  pub made-check : (p : Parts B) (bs : List ℕ) → length bs ≡ record-size → wrong-byte form bs ≡ None → parts-record form p ≡ bs
+      → letter-check (p .stamp) (p .poster) ≡ Ok tt
+  made-check p bs size right e =
+      let made = made-letter p bs size right e in
+      let m : Letter B = made .0 in
+      let same : letter-check (p .stamp) (p .poster) ≡ letter-check (m .stamp) (m .poster) = ap (λ q. letter-check (q .stamp) (q .poster)) (made .1) in
+      let a : ltb (m .poster) 16 ≡ true = lt-ltb (m .poster) 16 (m .seated) in
+      let b : ltb 0 (entry-at (m .stamp) (m .poster)) ≡ true = lt-ltb 0 (entry-at (m .stamp) (m .poster)) (m .counted) in
+      same ∙ rw (a, b)
 
   -- of 96 bytes and more, the first wrong byte is that of the record in front
   pub front-whole : (bs : List ℕ) → record-size ≤ length bs → wrong-front form bs ≡ wrong-byte form (take record-size bs)

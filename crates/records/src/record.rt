@@ -4,10 +4,11 @@ ghost use mathlib.Core.List.{_++_};
 ghost use Prim.Native.Nat.{_≤_};
 ghost use lib.ListN.{drop, length};
 ghost use Rattle.letters.specs.Checks.{first-failing};
+ghost use Rattle.std.specs.declared.option.Option.the-variants.{None};
 ghost use Rattle.std.specs.declared.result.Result.the-variants.{Ok};
 ghost use Rattle.letters.specs.Letters.{parts};
 ghost use Rattle.records.specs.Reading.{Left-by, Undoes, parts-left, read-answer};
-ghost use Rattle.records.specs.Records.{is-zero, record-of, wrong-byte, wrong-front, wrong-header};
+ghost use Rattle.records.specs.Records.{body-part, is-zero, kind-byte, record-of, wrong-byte, wrong-front, wrong-header};
 use crate::bytes::number_at;
 use crate::bytes::put;
 use crate::stamps::read_stamp;
@@ -70,11 +71,30 @@ fn read_whole<B: Body>(
     if let Some(place) = wrong_byte::<B>(bytes) {
         return Err(place);
     }
-    let len = bytes[34] as usize;
     *stamp = read_stamp(bytes);
     *poster = bytes[32];
-    *body = B::read(bytes[33], &bytes[36..36 + len]);
+    *body = read_body(bytes);
     Ok(())
+}
+
+// The body of a record in which nothing is wrong.
+fn read_body<B: Body>(bytes: &[u8]) -> B
+    requires size { ⌜ length (now bytes) ≡ 96 ⌝ }
+    requires right { ⌜ wrong-byte form (now bytes) ≡ None ⌝ }
+    ensures kind { λ r. ⌜ form .kind r ≡ kind-byte (now (bytes .entry)) ⌝ }
+    ensures bytes { λ r. ⌜ form .bytes r ≡ body-part (now (bytes .entry)) ⌝ }
+{
+    let len = bytes[34] as usize;
+    B::read(bytes[33], &bytes[36..36 + len])
+}
+
+// The letter of a record in which nothing is wrong.
+pub(crate) fn read_letter<B: Body>(bytes: &[u8]) -> Letter<B>
+    requires size { ⌜ length (now bytes) ≡ 96 ⌝ }
+    requires right { ⌜ wrong-byte form (now bytes) ≡ None ⌝ }
+    ensures { λ r. ⌜ record-of form r ≡ now (bytes .entry) ⌝ }
+{
+    Letter::make(read_stamp(bytes), bytes[32], read_body(bytes))
 }
 
 // The first wrong byte of the record at the front; where the bytes are too few for one, how many there are.
