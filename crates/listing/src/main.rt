@@ -121,7 +121,10 @@ fn main(rt: LibcRuntime) -> io::Result<()> {
         (Some(Kind::Job), _) => list(&rt, Job::Add(0)),
         (Some(Kind::Text), Ok(blank)) => list(&rt, blank),
         _ => {
-            eprintln!(rt, "usage: listing text|job < FILE (the kind of body that the letters have)")?;
+            eprintln!(
+                rt,
+                "usage: listing text|job < FILE (the kind of body that the letters have)"
+            )?;
             Err(io::Error::from(io::ErrorKind::InvalidInput))
         }
     }
