@@ -1,0 +1,6 @@
+pub mod Closing
+pub mod Counts
+pub mod Decisions
+pub mod Gained
+pub mod Rows
+pub mod Sending
