@@ -132,9 +132,9 @@ pub impl<'a, B: Body> Carrier for Lines<'a, B> as LinesCarrier {
         if !self.fits(poster) {
             return Err(Refusal::CarrierFull);
         }
-        for seat in 0..self.seats {
-            if seat != poster {
-                self.append(seat, letter);
+        for other in 0..self.seats {
+            if other != poster {
+                self.append(other, letter);
             }
         }
         Ok(())
