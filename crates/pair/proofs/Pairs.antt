@@ -18,6 +18,7 @@ use Rattle.letters.specs.Refusals.{Reason, plain, told}
 use Rattle.carriers.specs.Meaning.{Meaning, Put-on, Drawn, waits-at, put-answer, Put-leaves, draw-answer, Draw-leaves}
 use Rattle.carriers.proofs.Decisions.{put-ok, draw-ok, draw-no-seat, draw-no-place, put-accepted, accepted-put, draw-accepted, accepted-draw, draw-refused, refused-draw}
 use Rattle.carriers.proofs.Gained.{gains-append}
+use Rattle.carriers.proofs.Removed.{removed-left, removed-right}
 use Rattle.pair.specs.Pairs.{joined, both}
 use Rattle.pair.specs.PairLaws.{both-level}
 
@@ -52,16 +53,6 @@ module _ {L : Type 0} where
       let len : length (m .waiting k ++ n .waiting k) ≡ length (m .waiting k) + length (n .waiting k) = length-append _ _ in
       let sum : min (a + b) (2 ^ 32 - 1) ≡ waits-at (joined m n) k = omega arith in
       sum ∙ sym (ap (λ w. waits-at w k) before)
-
-  removed-left : (xs ys : List L) (i : ℕ) → i < length xs → removed (xs ++ ys) i ≡ removed xs i ++ ys
-  removed-left xs ys i h =
-      let h′ : i ≤ length xs = omega arith in
-      let h″ : suc i ≤ length xs = omega arith in
-      rw (take-append-le i xs ys h′, drop-append-le (suc i) xs ys h″) (sym (append-assoc (take i xs) (drop (suc i) xs) ys))
-
-  removed-right : (xs ys : List L) (i : ℕ) → removed (xs ++ ys) (length xs + i) ≡ xs ++ removed ys i
-  removed-right [] ys i = rw (zero-add i)
-  removed-right (x ∷ xs) ys i = rw (suc-add (length xs) i) (ap (λ l. x ∷ l) (removed-right xs ys i))
 
   module _ {P : Type 0} (see : L → P) where
     -- what a draw answers and leaves
