@@ -1,3 +1,4 @@
+pub mod Appended
 pub mod Closing
 pub mod Counts
 pub mod Decisions

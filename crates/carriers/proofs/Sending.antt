@@ -11,10 +11,9 @@ use Rattle.std.proofs.shelf.Lists.{getD-set-other}
 use Rattle.std.proofs.shelf.Tests.{cases-eq, cases-lt, cond-true, cond-false, and-from, and-left, and-right, lt-ltb, le-ltb, eq-eqb, ne-eqb}
 use Rattle.letters.specs.declared.letter.Letter.{Letter}
 use Rattle.carriers.specs.declared.lines.Lines.{Lines}
-use Rattle.carriers.specs.Putting.{Gains}
 use Rattle.carriers.specs.Meaning.{Put-on}
 use Rattle.carriers.specs.Lines.{lines-of, appended}
-use Rattle.carriers.proofs.Gained.{gains-end}
+use Rattle.carriers.proofs.Appended.{put-appended}
 
 module _ {B : Type 0} (old : Lines B) (x : Letter B) where
   -- the seats of the old lines below i have the letter in the new ones, but for its poster
@@ -56,15 +55,6 @@ module _ {B : Type 0} (old : Lines B) (x : Letter B) where
       ahead = λ k le. let other : ¬ (k ≡ i) = (λ e. omega arith) in others k other ∙ s .ahead k (omega arith);
     }
 
-    pub sent-all : i ≡ old .seats → Put-on (lines-of old) (x .poster) x (lines-of mid)
-    sent-all e = record {
-      seats = s .seats;
-      lists = record {
-        own = s .own;
-        others = λ k h ne. subst (Gains x (lines-of old .waiting k)) (sym (s .passed k (omega arith) ne)) (gains-end x _);
-      };
-    }
-
     pub sent-exact : i ≡ old .seats → (k : ℕ) → lines-of mid .waiting k ≡ appended (lines-of old) (x .poster) x k
     sent-exact e k = ⊎-elim
         (λ own. subst (λ j. lines-of mid .waiting j ≡ lines-of old .waiting j) (sym own) (s .own)
@@ -74,3 +64,6 @@ module _ {B : Type 0} (old : Lines B) (x : Letter B) where
         (λ above. s .ahead k (omega arith) ∙ sym (cond-false _ _ _ (and-left _ _ (le-ltb k (old .seats) above))))
         (cases-lt k (old .seats)))
         (cases-eq k (x .poster))
+
+    pub sent-all : i ≡ old .seats → Put-on (lines-of old) (x .poster) x (lines-of mid)
+    sent-all e = put-appended (lines-of old) (lines-of mid) (x .poster) x (s .seats) (sent-exact e)

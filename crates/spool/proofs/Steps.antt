@@ -1,21 +1,20 @@
 -- What a put and a draw do to what a spool holds.
 use mathlib.Core.Path.{_≡_, refl, sym, ap, subst, _∙_}
 use mathlib.Core.Logic.{⊎-elim, inl, inr, _≢_}
-use mathlib.Core.Bool.{Bool, true, false, cond}
+use mathlib.Core.Bool.{Bool, true, false, cond, not, _&&_}
 use mathlib.Core.List.{List, [], _∷_, _++_, append-nil}
 use Prim.Native.Nat.{ℕ, zero, suc, _+_, _-_, _*_, _^_, _<_, _≤_}
 use native.Mathlib.Omega.{arith}
 use native.Mathlib.Numerals.{add-one}
-use lib.Dec.{eqb}
+use lib.Dec.{eqb, ltb}
 use lib.Bits.{bitXor, xor-lt}
 use lib.Count.{ones}
 use lib.ListN.{length, getD, take}
 use Rattle.std.specs.Holes.{removed}
 use Rattle.std.proofs.shelf.Bits.{pow-pos, pow-below}
-use Rattle.std.proofs.shelf.Tests.{cases-eq, eq-eqb, ne-eqb, both-ways}
-use Rattle.carriers.specs.Putting.{Gains}
-use Rattle.carriers.specs.Meaning.{Put-on, Drawn}
-use Rattle.carriers.proofs.Gained.{gains-end}
+use Rattle.std.proofs.shelf.Tests.{cases-eq, cases-lt, and-from, and-left, and-right, cond-false, eq-eqb, ne-eqb, lt-ltb, le-ltb}
+use Rattle.carriers.specs.Lines.{appended}
+use Rattle.carriers.specs.Meaning.{Drawn}
 use Rattle.spool.specs.Masks.{all-but, full, marked}
 use Rattle.spool.specs.Rows.{row-at, mask-of, picks, marks-at, letters-at, record-part}
 use Rattle.spool.specs.Spools.{spool-meaning}
@@ -23,39 +22,42 @@ use Rattle.spool.specs.SpoolLaws.{no-bit}
 use Rattle.spool.proofs.Bits.{cleared, other-bit, full-bit}
 use Rattle.spool.proofs.Picks.{picks-same, picks-clear, picks-close}
 
-pub but-own : (seats poster : ℕ) → poster < seats → marked (all-but seats poster) poster ≡ false
-but-own seats poster h = cleared (full seats) poster (full-bit seats poster h)
-
-pub but-other : (seats poster k : ℕ) → k < seats → (k ≡ poster → ⊥) → marked (all-but seats poster) k ≡ true
-but-other seats poster k h ne = other-bit (full seats) k poster ne ∙ full-bit seats k h
-
 pub turned-below : (seats mask seat : ℕ) → mask < 2 ^ seats → seat < seats → bitXor mask (2 ^ seat) < 2 ^ seats
 turned-below seats mask seat l h = xor-lt seats mask (2 ^ seat) l (pow-below seat seats h)
 
 pub but-below : (seats poster : ℕ) → poster < seats → all-but seats poster < 2 ^ seats
 but-below seats poster h = let p = pow-pos seats in turned-below seats (full seats) poster (omega arith) h
 
+-- the full mask less the poster's bit marks each other seat
+pub but-marks : (seats poster k : ℕ) → poster < seats → marked (all-but seats poster) k ≡ (ltb k seats && not (eqb k poster))
+but-marks seats poster k h = ⊎-elim
+    (λ own. subst (λ j. marked (all-but seats poster) j ≡ false) (sym own) (cleared (full seats) poster (full-bit seats poster h))
+        ∙ sym (and-right (ltb k seats) _ (ap not (eq-eqb k poster own))))
+    (λ other. ⊎-elim
+        (λ below. other-bit (full seats) k poster other ∙ full-bit seats k below ∙ sym (and-from _ _ (lt-ltb k seats below) (ap not (ne-eqb k poster other))))
+        (λ above. no-bit seats (all-but seats poster) k (but-below seats poster h) above ∙ sym (and-left _ _ (le-ltb k seats above)))
+        (cases-lt k seats))
+    (cases-eq k poster)
+
+-- a copy at the end, or none
+at-end : {L : Type 0} (b : Bool) (xs : List L) (x : L) → xs ++ cond b (x ∷ []) [] ≡ cond b (xs ++ (x ∷ [])) xs
+at-end true xs x = refl
+at-end false xs x = append-nil xs
+
 module _ {L : Type 0} (letter : List ℕ → L) (seats rows : ℕ) (b a : List ℕ) where
   -- a row more, for all but the poster
   pub spooled : (poster : ℕ) (x : L) → poster < seats → ((r : ℕ) → r < rows → row-at a r ≡ row-at b r) →
       mask-of (row-at a rows) ≡ all-but seats poster → letter (record-part (row-at a rows)) ≡ x →
-      Put-on (spool-meaning letter seats rows b) poster x (spool-meaning letter seats (rows + 1) a)
-  spooled poster x h same mask is =
-      let grown : (k : ℕ) → picks (marks-at a k) (letters-at letter a) (rows + 1) ≡ picks (marks-at b k) (letters-at letter b) rows ++ cond (marked (all-but seats poster) k) (x ∷ []) [] = λ k.
-          ap (picks (marks-at a k) (letters-at letter a)) (add-one rows)
-          ∙ ap (λ l. l ++ cond (marks-at a k rows) (letters-at letter a rows ∷ []) [])
-              (picks-same (marks-at a k) (marks-at b k) (letters-at letter a) (letters-at letter b) rows (λ r l. ap (λ w. marked (mask-of w) k) (same r l)) (λ r l _. ap (λ w. letter (record-part w)) (same r l)))
-          ∙ ap (λ m. picks (marks-at b k) (letters-at letter b) rows ++ cond (marked m k) (letters-at letter a rows ∷ []) []) mask
-          ∙ ap (λ y. picks (marks-at b k) (letters-at letter b) rows ++ cond (marked (all-but seats poster) k) (y ∷ []) []) is in
-      record {
-        seats = refl;
-        lists = record {
-          own = grown poster ∙ ap (λ t. picks (marks-at b poster) (letters-at letter b) rows ++ cond t (x ∷ []) []) (but-own seats poster h) ∙ append-nil _;
-          others = λ k l ne. subst (Gains x (picks (marks-at b k) (letters-at letter b) rows))
-            (sym (grown k ∙ ap (λ t. picks (marks-at b k) (letters-at letter b) rows ++ cond t (x ∷ []) []) (but-other seats poster k l ne)))
-            (gains-end x _);
-        };
-      }
+      (k : ℕ) → spool-meaning letter seats (rows + 1) a .waiting k ≡ appended (spool-meaning letter seats rows b) poster x k
+  spooled poster x h same mask is k =
+      let before : List L = picks (marks-at b k) (letters-at letter b) rows in
+      ap (picks (marks-at a k) (letters-at letter a)) (add-one rows)
+      ∙ ap (λ l. l ++ cond (marks-at a k rows) (letters-at letter a rows ∷ []) [])
+          (picks-same (marks-at a k) (marks-at b k) (letters-at letter a) (letters-at letter b) rows (λ r l. ap (λ w. marked (mask-of w) k) (same r l)) (λ r l _. ap (λ w. letter (record-part w)) (same r l)))
+      ∙ ap (λ m. before ++ cond (marked m k) (letters-at letter a rows ∷ []) []) mask
+      ∙ ap (λ y. before ++ cond (marked (all-but seats poster) k) (y ∷ []) []) is
+      ∙ at-end (marked (all-but seats poster) k) before x
+      ∙ ap (λ t. cond t (before ++ (x ∷ [])) before) (but-marks seats poster k h)
 
   module _ (seat i : ℕ) (in-rows : i < rows) (has : marks-at b seat i ≡ true) where
     abbrev place : ℕ
@@ -110,11 +112,7 @@ module _ {L : Type 0} (letter : List ℕ → L) (seats rows : ℕ) (b a : List �
         }
 
 -- no row, where the poster is the only seat
-pub nobody-else : {L : Type 0} (letter : List ℕ → L) (seats rows : ℕ) (b : List ℕ) (poster : ℕ) (x : L) → all-but seats poster ≡ 0 → Put-on (spool-meaning letter seats rows b) poster x (spool-meaning letter seats rows b)
-nobody-else letter seats rows b poster x none = record {
-  seats = refl;
-  lists = record {
-    own = refl;
-    others = λ k l ne. absurd (both-ways (marked 0 k) (no-bit 0 0 k (omega arith) (omega arith)) (subst (λ m. marked m k ≡ true) none (but-other seats poster k l ne)));
-  };
-}
+pub nobody-else : {L : Type 0} (letter : List ℕ → L) (seats rows : ℕ) (b : List ℕ) (poster : ℕ) (x : L) → poster < seats → all-but seats poster ≡ 0 →
+    (k : ℕ) → spool-meaning letter seats rows b .waiting k ≡ appended (spool-meaning letter seats rows b) poster x k
+nobody-else letter seats rows b poster x h none k =
+    sym (cond-false _ _ _ (sym (but-marks seats poster k h) ∙ ap (λ m. marked m k) none ∙ no-bit 0 0 k (omega arith) (omega arith)))

@@ -120,6 +120,7 @@ pub impl<'a, B: Stored> Carrier for Spool<'a, B> as SpoolCarrier {
     fn put(&mut self, letter: &Letter<B>) -> Result<(), Refusal>
         ensures answer { λ r. ⌜ told (λ u. u) r ≡ put-answer (spool-of (B·Body .form) blank (now (self .entry))) (now (letter .entry) .poster) ⌝ }
         ensures leaves { λ r. ⌜ Put-leaves r (spool-of (B·Body .form) blank (now (self .entry))) (now (letter .entry) .poster) (now (letter .entry)) (spool-of (B·Body .form) blank (now (self .exit))) ⌝ }
+        ensures exact { λ r. ⌜ Appends r (spool-of (B·Body .form) blank (now (self .entry))) (now (letter .entry) .poster) (now (letter .entry)) (spool-of (B·Body .form) blank (now (self .exit))) ⌝ }
         ensures kept { λ r. ⌜ Kept r (now (self .entry) .tape .bytes .now) (now (self .exit) .tape .bytes .now) ⌝ }
     {
         let poster = letter.poster();

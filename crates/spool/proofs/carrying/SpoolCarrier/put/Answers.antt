@@ -6,11 +6,12 @@ use lib.Dec.{leb, ltb}
 use lib.ListN.{length}
 use Rattle.std.proofs.shelf.Tests.{and-parts, leb-true}
 use Rattle.carriers.specs.Meaning.{put-answer}
+use Rattle.carriers.proofs.Appended.{put-appended}
 use Rattle.carriers.proofs.Decisions.{put-ok}
 use Rattle.spool.specs.Decoding.{letter-of}
 use Rattle.spool.specs.Masks.{all-but}
 use Rattle.spool.specs.Rows.{mask-of, row-at, row-fits}
-use Rattle.spool.specs.Spools.{spool-of}
+use Rattle.spool.specs.Spools.{spool-meaning, spool-of}
 use Rattle.spool.proofs.Bits.{ones-some, ones-none}
 use Rattle.spool.proofs.Bytes.{kept-rows}
 use Rattle.spool.proofs.Decoded.{letter-back}
@@ -50,12 +51,14 @@ returns-then-mask-gt0 g c =
     let read = letter-of form blank in
     let is = c .poster-poster .ensures in
     let m = spool-of form blank s in
+    let exact = spooled read (s .seats) (s .rows) b a (x .poster) x (subst (λ p. p < s .seats) is (c .if-poster-self .left))
+        (λ r l. kept-rows mid a (s .rows) (c .set-mask .ensures .only) r (omega arith) ∙ kept-rows b mid (s .rows) (c .write .ensures .only) r (omega arith))
+        (c .set-mask .ensures .mask ∙ c .all-but-mask .ensures ∙ ap (all-but (s .seats)) is)
+        (ap read (c .set-mask .ensures .letter ∙ c .write .ensures .letter) ∙ letter-back blank form (g .B·Body·met .lawful) x) in
     record {
       answer = sym (ap (put-answer m) (sym is) ∙ put-ok m (c .poster-poster .result) (c .if-poster-self .left) (sym (c .fits-2 .ensures) ∙ c .if-not-fits .left));
-      leaves = spooled read (s .seats) (s .rows) b a (x .poster) x (subst (λ p. p < s .seats) is (c .if-poster-self .left))
-          (λ r l. kept-rows mid a (s .rows) (c .set-mask .ensures .only) r (omega arith) ∙ kept-rows b mid (s .rows) (c .write .ensures .only) r (omega arith))
-          (c .set-mask .ensures .mask ∙ c .all-but-mask .ensures ∙ ap (all-but (s .seats)) is)
-          (ap read (c .set-mask .ensures .letter ∙ c .write .ensures .letter) ∙ letter-back blank form (g .B·Body·met .lawful) x);
+      leaves = put-appended m (spool-meaning read (s .seats) (s .rows + 1) a) (x .poster) x refl exact;
+      exact = exact;
       kept = tt;
     }
 
@@ -70,8 +73,10 @@ returns-else-mask-gt0 g c =
     let m = spool-of form blank s in
     let few : c .all-but-mask .result < 2 ^ s .seats = subst (λ m. m < 2 ^ s .seats) (sym (c .all-but-mask .ensures)) (but-below (s .seats) (c .poster-poster .result) (c .if-poster-self .left)) in
     let none : c .all-but-mask .result ≡ 0 = ones-none (s .seats) _ (omega (arith, c .if-mask-gt0 .left)) few in
+    let exact = nobody-else (letter-of form blank) (s .seats) (s .rows) b (x .poster) x (subst (λ p. p < s .seats) is (c .if-poster-self .left)) (ap (all-but (s .seats)) (sym is) ∙ sym (c .all-but-mask .ensures) ∙ none) in
     record {
       answer = sym (ap (put-answer m) (sym is) ∙ put-ok m (c .poster-poster .result) (c .if-poster-self .left) (sym (c .fits-2 .ensures) ∙ c .if-not-fits .left));
-      leaves = nobody-else (letter-of form blank) (s .seats) (s .rows) b (x .poster) x (ap (all-but (s .seats)) (sym is) ∙ sym (c .all-but-mask .ensures) ∙ none);
+      leaves = put-appended m m (x .poster) x refl exact;
+      exact = exact;
       kept = tt;
     }
