@@ -29,13 +29,13 @@ digit-pow-other : (j k : ℕ) → (j ≡ k → ⊥) → digit (2 ^ k) j ≡ 0
 unfolding digit
 digit-pow-other j k ne = ⊎-elim
     (λ below.
-        let up = k - j - 1 in
-        let sum : k ≡ (up + 1) + j = omega arith in
-        ap (λ x. 2 ^ x / 2 ^ j % 2) sum ∙ ap (λ x. x / 2 ^ j % 2) (pow-add 2 (up + 1) j) ∙ ap (λ x. x % 2) (shl-shr (2 ^ (up + 1)) j)
-        ∙ ap (λ x. x % 2) (pow-add 2 up 1) ∙ mul-mod-left (2 ^ up) 2)
+    let up = k - j - 1 in
+    let sum : k ≡ (up + 1) + j = omega arith in
+    ap (λ x. 2 ^ x / 2 ^ j % 2) sum ∙ ap (λ x. x / 2 ^ j % 2) (pow-add 2 (up + 1) j) ∙ ap (λ x. x % 2) (shl-shr (2 ^ (up + 1)) j)
+    ∙ ap (λ x. x % 2) (pow-add 2 up 1) ∙ mul-mod-left (2 ^ up) 2)
     (λ above.
-        let less : 2 ^ k < 2 ^ j = pow-below k j (omega arith) in
-        ap (λ x. x % 2) (div-eq-of-lt less))
+    let less : 2 ^ k < 2 ^ j = pow-below k j (omega arith) in
+    ap (λ x. x % 2) (div-eq-of-lt less))
     (cases-lt j k)
 
 -- a bit that is turned over, and the others

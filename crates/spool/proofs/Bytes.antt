@@ -47,10 +47,10 @@ module _ (bytes : List ℕ) (row x y : ℕ) (fits : row * 98 + 98 ≤ length byt
   length-ending = length-set _ _ _ ∙ length-set _ _ _
 
   pub only-ending : Only-at (row * 98) 98 bytes ending
-  only-ending =
-      ( take-set-le (row * 98) _ _ y (omega arith) ∙ take-set-le (row * 98) bytes _ x (omega arith)
-      , drop-set-lt (row * 98 + 98) _ _ y (omega arith) ∙ drop-set-lt (row * 98 + 98) bytes _ x (omega arith)
-      )
+  only-ending = (
+    take-set-le (row * 98) _ _ y (omega arith) ∙ take-set-le (row * 98) bytes _ x (omega arith),
+    drop-set-lt (row * 98 + 98) _ _ y (omega arith) ∙ drop-set-lt (row * 98 + 98) bytes _ x (omega arith),
+  )
 
   pub mask-ending : mask-of (row-at ending row) ≡ x + y * 256
   mask-ending =

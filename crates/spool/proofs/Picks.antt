@@ -30,9 +30,9 @@ module _ {L : Type 0} where
   picks-grow t f i zero h y = absurd (omega arith)
   picks-grow t f i (suc n) h y = ⊎-elim
       (λ same. subst (λ m. length (picks t f i) < length (picks t f m ++ cond (t m) (f m ∷ []) [])) same
-          (rw (y, length-append (picks t f i) (f i ∷ [])) (omega arith)))
+      (rw (y, length-append (picks t f i) (f i ∷ [])) (omega arith)))
       (λ other. let less = picks-grow t f i n (omega arith) y in
-          omega (arith, less, length-append (picks t f n) (cond (t n) (f n ∷ []) [])))
+      omega (arith, less, length-append (picks t f n) (cond (t n) (f n ∷ []) [])))
       (cases-eq i n)
 
   -- the letter at the place of a row
@@ -40,7 +40,7 @@ module _ {L : Type 0} where
   picks-at t f i zero d h y = absurd (omega arith)
   picks-at t f i (suc n) d h y = ⊎-elim
       (λ same. subst (λ m. getD (picks t f m ++ cond (t m) (f m ∷ []) []) (length (picks t f i)) d ≡ f i) same
-          (rw y (getD-at (picks t f i) (f i) [] d (length (picks t f i)) refl)))
+      (rw y (getD-at (picks t f i) (f i) [] d (length (picks t f i)) refl)))
       (λ other. getD-append-left (picks t f n) _ d _ (picks-grow t f i n (omega arith) y) ∙ picks-at t f i n d (omega arith) y)
       (cases-eq i n)
 
@@ -51,15 +51,15 @@ module _ {L : Type 0} where
   picks-clear t t′ f f′ i zero h y z e g = absurd (omega arith)
   picks-clear t t′ f f′ i (suc n) h y z e g = ⊎-elim
       (λ same.
-          let front : picks t f i ≡ picks t′ f′ i = picks-same t t′ f f′ i (λ r l. e r (omega arith) (omega arith)) (λ r l _. g r (omega arith) (omega arith)) in
-          subst (λ m. picks t′ f′ m ++ cond (t′ m) (f′ m ∷ []) [] ≡ removed (picks t f m ++ cond (t m) (f m ∷ []) []) (length (picks t f i))) same
-          (rw (y, z) (append-nil (picks t′ f′ i) ∙ sym front ∙ sym (removed-end (picks t f i) (f i)))))
+      let front : picks t f i ≡ picks t′ f′ i = picks-same t t′ f f′ i (λ r l. e r (omega arith) (omega arith)) (λ r l _. g r (omega arith) (omega arith)) in
+      subst (λ m. picks t′ f′ m ++ cond (t′ m) (f′ m ∷ []) [] ≡ removed (picks t f m ++ cond (t m) (f m ∷ []) []) (length (picks t f i))) same
+      (rw (y, z) (append-nil (picks t′ f′ i) ∙ sym front ∙ sym (removed-end (picks t f i) (f i)))))
       (λ other.
-          let back : cond (t n) (f n ∷ []) [] ≡ cond (t′ n) (f′ n ∷ []) [] =
-              ap (λ x. cond (t n) (x ∷ []) []) (g n (omega arith) (λ s. other (sym s))) ∙ ap (λ b. cond b (f′ n ∷ []) []) (e n (omega arith) (λ s. other (sym s))) in
-          ap (λ l. l ++ cond (t′ n) (f′ n ∷ []) []) (picks-clear t t′ f f′ i n (omega arith) y z (λ r l. e r (omega arith)) (λ r l. g r (omega arith)))
-          ∙ ap (λ l. removed (picks t f n) (length (picks t f i)) ++ l) (sym back)
-          ∙ sym (removed-left (picks t f n) _ _ (picks-grow t f i n (omega arith) y)))
+      let back : cond (t n) (f n ∷ []) [] ≡ cond (t′ n) (f′ n ∷ []) [] =
+      ap (λ x. cond (t n) (x ∷ []) []) (g n (omega arith) (λ s. other (sym s))) ∙ ap (λ b. cond b (f′ n ∷ []) []) (e n (omega arith) (λ s. other (sym s))) in
+      ap (λ l. l ++ cond (t′ n) (f′ n ∷ []) []) (picks-clear t t′ f f′ i n (omega arith) y z (λ r l. e r (omega arith)) (λ r l. g r (omega arith)))
+      ∙ ap (λ l. removed (picks t f n) (length (picks t f i)) ++ l) (sym back)
+      ∙ sym (removed-left (picks t f n) _ _ (picks-grow t f i n (omega arith) y)))
       (cases-eq i n)
 
   -- a row that does not pass is closed up
@@ -71,13 +71,13 @@ module _ {L : Type 0} where
       sym (ap (λ b. cond b (f 0 ∷ []) []) (subst (λ j. t j ≡ false) none z))
   picks-close t t′ f f′ i (suc n) h z e g = ⊎-elim
       (λ same.
-          let front : picks t f (suc n) ≡ picks t′ f′ (suc n) = picks-same t t′ f f′ (suc n) (λ r l. e r (omega arith) .0) (λ r l _. e r (omega arith) .1) in
-          sym (ap (λ b. picks t f (suc n) ++ cond b (f (suc n) ∷ []) []) (subst (λ j. t j ≡ false) same z) ∙ append-nil (picks t f (suc n)) ∙ front))
+      let front : picks t f (suc n) ≡ picks t′ f′ (suc n) = picks-same t t′ f f′ (suc n) (λ r l. e r (omega arith) .0) (λ r l _. e r (omega arith) .1) in
+      sym (ap (λ b. picks t f (suc n) ++ cond b (f (suc n) ∷ []) []) (subst (λ j. t j ≡ false) same z) ∙ append-nil (picks t f (suc n)) ∙ front))
       (λ other.
-          let le : i ≤ n = omega arith in
-          let at = g n le (omega arith) in
-          ap (λ l. l ++ cond (t′ n) (f′ n ∷ []) []) (picks-close t t′ f f′ i n le z e (λ r l m. g r l (omega arith)))
-          ∙ ap (λ b. picks t f (suc n) ++ cond b (f′ n ∷ []) []) (sym (at .0)) ∙ ap (λ x. picks t f (suc n) ++ cond (t (suc n)) (x ∷ []) []) (sym (at .1)))
+      let le : i ≤ n = omega arith in
+      let at = g n le (omega arith) in
+      ap (λ l. l ++ cond (t′ n) (f′ n ∷ []) []) (picks-close t t′ f f′ i n le z e (λ r l m. g r l (omega arith)))
+      ∙ ap (λ b. picks t f (suc n) ++ cond b (f′ n ∷ []) []) (sym (at .0)) ∙ ap (λ x. picks t f (suc n) ++ cond (t (suc n)) (x ∷ []) []) (sym (at .1)))
       (cases-eq i (suc n))
 
   pub picks-yes : (t : ℕ → Bool) (f : ℕ → L) (n : ℕ) → t n ≡ true → length (picks t f (n + 1)) ≡ length (picks t f n) + 1

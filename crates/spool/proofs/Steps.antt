@@ -32,11 +32,11 @@ but-below seats poster h = let p = pow-pos seats in turned-below seats (full sea
 pub but-marks : (seats poster k : ℕ) → poster < seats → marked (all-but seats poster) k ≡ (ltb k seats && not (eqb k poster))
 but-marks seats poster k h = ⊎-elim
     (λ own. subst (λ j. marked (all-but seats poster) j ≡ false) (sym own) (cleared (full seats) poster (full-bit seats poster h))
-        ∙ sym (and-right (ltb k seats) _ (ap not (eq-eqb k poster own))))
+    ∙ sym (and-right (ltb k seats) _ (ap not (eq-eqb k poster own))))
     (λ other. ⊎-elim
-        (λ below. other-bit (full seats) k poster other ∙ full-bit seats k below ∙ sym (and-from _ _ (lt-ltb k seats below) (ap not (ne-eqb k poster other))))
-        (λ above. no-bit seats (all-but seats poster) k (but-below seats poster h) above ∙ sym (and-left _ _ (le-ltb k seats above)))
-        (cases-lt k seats))
+    (λ below. other-bit (full seats) k poster other ∙ full-bit seats k below ∙ sym (and-from _ _ (lt-ltb k seats below) (ap not (ne-eqb k poster other))))
+    (λ above. no-bit seats (all-but seats poster) k (but-below seats poster h) above ∙ sym (and-left _ _ (le-ltb k seats above)))
+    (cases-lt k seats))
     (cases-eq k poster)
 
 -- a copy at the end, or none
@@ -53,7 +53,7 @@ module _ {L : Type 0} (letter : List ℕ → L) (seats rows : ℕ) (b a : List �
       let before : List L = picks (marks-at b k) (letters-at letter b) rows in
       ap (picks (marks-at a k) (letters-at letter a)) (add-one rows)
       ∙ ap (λ l. l ++ cond (marks-at a k rows) (letters-at letter a rows ∷ []) [])
-          (picks-same (marks-at a k) (marks-at b k) (letters-at letter a) (letters-at letter b) rows (λ r l. ap (λ w. marked (mask-of w) k) (same r l)) (λ r l _. ap (λ w. letter (record-part w)) (same r l)))
+      (picks-same (marks-at a k) (marks-at b k) (letters-at letter a) (letters-at letter b) rows (λ r l. ap (λ w. marked (mask-of w) k) (same r l)) (λ r l _. ap (λ w. letter (record-part w)) (same r l)))
       ∙ ap (λ m. before ++ cond (marked m k) (letters-at letter a rows ∷ []) []) mask
       ∙ ap (λ y. before ++ cond (marked (all-but seats poster) k) (y ∷ []) []) is
       ∙ at-end (marked (all-but seats poster) k) before x
@@ -68,9 +68,9 @@ module _ {L : Type 0} (letter : List ℕ → L) (seats rows : ℕ) (b a : List �
         Drawn (spool-meaning letter seats rows b) seat place (spool-meaning letter seats rows a)
     drawn-mask same mask kept =
         let letters : (r : ℕ) → letters-at letter b r ≡ letters-at letter a r = λ r. ⊎-elim
-            (λ e. ap letter (subst (λ j. record-part (row-at b j) ≡ record-part (row-at a j)) (sym e) (sym kept)))
-            (λ ne. ap (λ w. letter (record-part w)) (sym (same r ne)))
-            (cases-eq r i) in
+        (λ e. ap letter (subst (λ j. record-part (row-at b j) ≡ record-part (row-at a j)) (sym e) (sym kept)))
+        (λ ne. ap (λ w. letter (record-part w)) (sym (same r ne)))
+        (cases-eq r i) in
         record {
           seats = refl;
           own = picks-clear (marks-at b seat) (marks-at a seat) (letters-at letter b) (letters-at letter a) i rows in-rows has
@@ -79,9 +79,9 @@ module _ {L : Type 0} (letter : List ℕ → L) (seats rows : ℕ) (b a : List �
               (λ r l ne. letters r);
           others = λ k ne. sym (picks-same (marks-at b k) (marks-at a k) (letters-at letter b) (letters-at letter a) rows
               (λ r l. ⊎-elim
-                  (λ e. subst (λ j. marks-at b k j ≡ marks-at a k j) (sym e) (sym (ap (λ m. marked m k) mask ∙ other-bit (mask-of (row-at b i)) k seat ne)))
-                  (λ other. ap (λ w. marked (mask-of w) k) (sym (same r other)))
-                  (cases-eq r i))
+              (λ e. subst (λ j. marks-at b k j ≡ marks-at a k j) (sym e) (sym (ap (λ m. marked m k) mask ∙ other-bit (mask-of (row-at b i)) k seat ne)))
+              (λ other. ap (λ w. marked (mask-of w) k) (sym (same r other)))
+              (cases-eq r i))
               (λ r l _. letters r));
         }
 

@@ -24,19 +24,19 @@ some-bit zero mask h l = absurd (omega arith)
 some-bit (suc n) mask h l = ⊎-elim
     (λ odd. (0, eq-eqb _ _ (ap (λ x. x % 2) (div-one mask) ∙ odd)))
     (λ even.
-        let double = pow-suc 2 n in
-        let rest = some-bit n (mask / 2) (omega arith) (omega arith) in
-        let next : 1 + rest .0 ≡ suc (rest .0) = omega arith in
-        (suc (rest .0), ap (λ x. eqb (x % 2) 1) (sym (shr-shr mask 1 (rest .0) ∙ ap (λ j. mask / 2 ^ j) next)) ∙ rest .1))
+    let double = pow-suc 2 n in
+    let rest = some-bit n (mask / 2) (omega arith) (omega arith) in
+    let next : 1 + rest .0 ≡ suc (rest .0) = omega arith in
+    (suc (rest .0), ap (λ x. eqb (x % 2) 1) (sym (shr-shr mask 1 (rest .0) ∙ ap (λ j. mask / 2 ^ j) next)) ∙ rest .1))
     (cases-eq (mask % 2) 1)
 
 -- no bit at or above the width
 pub no-bit : (n mask k : ℕ) → mask < 2 ^ n → n ≤ k → marked mask k ≡ false
 no-bit n mask k l h =
     let wide : mask < 2 ^ k = ⊎-elim
-        (λ same. subst (λ j. mask < 2 ^ j) same l)
-        (⊎-elim (λ less. let more = pow-below n k less in omega arith) (λ more. absurd (omega arith)))
-        (cases-order n k) in
+    (λ same. subst (λ j. mask < 2 ^ j) same l)
+    (⊎-elim (λ less. let more = pow-below n k less in omega arith) (λ more. absurd (omega arith)))
+    (cases-order n k) in
     ap (λ x. eqb (x % 2) 1) (div-eq-of-lt wide)
 
 module _ {L : Type 0} (t : ℕ → Bool) (f : ℕ → L) where

@@ -12,13 +12,14 @@ ghost use Rattle.spool.specs.Decoding.{letter-of};
 ghost use Rattle.spool.specs.Rows.{letters-at, marks-at, picks, spool-answer};
 ghost use Rattle.spool.specs.SpoolLaws.{lawful-spool};
 ghost use Rattle.spool.specs.Spools.{spool-of};
-use carriers::carrier::Carrier;
 use crate::Spool;
 use crate::masks::all_but;
+use crate::masks::is_done;
 use crate::masks::marks;
 use crate::stored::Stored;
 use crate::tape::ROW_SIZE;
 use crate::tape::Tape;
+use carriers::carrier::Carrier;
 use letters::letter::Letter;
 use letters::refusal::Refusal;
 use letters::stamp::Stamp;
@@ -80,7 +81,7 @@ impl<'a, B: Stored> Spool<'a, B> {
         ensures { λ _. ⌜ Drawn (spool-of (B·Body .form) blank (now (self .entry))) seat (length (picks (marks-at (now (self .entry) .tape .bytes .now) seat) (letters-at (letter-of (B·Body .form) blank) (now (self .entry) .tape .bytes .now)) row)) (spool-of (B·Body .form) blank (now (self .exit))) ⌝ }
     {
         let left = self.tape.mask(row) ^ (1 << seat);
-        if left.count_ones() == 0 {
+        if is_done(left) {
             self.tape.close_up(row, self.rows);
             self.rows -= 1;
         } else {
@@ -131,7 +132,7 @@ pub impl<'a, B: Stored> Carrier for Spool<'a, B> as SpoolCarrier {
             return Err(Refusal::CarrierFull);
         }
         let mask = all_but(self.seats, poster);
-        if mask.count_ones() > 0 {
+        if !is_done(mask) {
             self.tape.write(self.rows, letter);
             self.tape.set_mask(self.rows, mask);
             self.rows += 1;
@@ -139,7 +140,14 @@ pub impl<'a, B: Stored> Carrier for Spool<'a, B> as SpoolCarrier {
         Ok(())
     }
 
-    fn draw(&mut self, seat: u8, place: u32, stamp: &mut Stamp, poster: &mut u8, body: &mut B) -> Result<(), Refusal>
+    fn draw(
+        &mut self,
+        seat: u8,
+        place: u32,
+        stamp: &mut Stamp,
+        poster: &mut u8,
+        body: &mut B,
+    ) -> Result<(), Refusal>
         ensures answer { λ r. ⌜ told (λ u. u) r ≡ draw-answer (spool-of (B·Body .form) blank (now (self .entry))) seat place ⌝ }
         ensures leaves { λ r. ⌜ Draw-leaves parts-of r (spool-of (B·Body .form) blank (now (self .entry))) seat place (spool-of (B·Body .form) blank (now (self .exit))) (parts (now (stamp .entry)) (now (poster .entry)) (now (body .entry))) (parts (now (stamp .exit)) (now (poster .exit)) (now (body .exit))) ⌝ }
         ensures kept { λ r. ⌜ Kept r (now (self .entry) .tape .bytes .now) (now (self .exit) .tape .bytes .now) ⌝ }

@@ -47,7 +47,13 @@ impl<'a> Tape<'a> {
     }
 
     // Fills the lent parts with those of a row's letter.
-    pub(crate) fn read<B: Stored>(&self, row: usize, stamp: &mut Stamp, poster: &mut u8, body: &mut B)
+    pub(crate) fn read<B: Stored>(
+        &self,
+        row: usize,
+        stamp: &mut Stamp,
+        poster: &mut u8,
+        body: &mut B,
+    )
         requires { ⌜ row * row-size + row-size ≤ length (now self .bytes .now) ⌝ }
         ensures { λ _. ⌜ parts (now (stamp .exit)) (now (poster .exit)) (now (body .exit)) ≡ parts-of (letter-of (B·Body .form) blank (record-part (row-at (now (self .entry) .bytes .now) row))) ⌝ }
     {
@@ -73,7 +79,8 @@ impl<'a> Tape<'a> {
         ensures before { λ _. ⌜ ((r : ℕ) → r < row → row-at (now (self .exit) .bytes .now) r ≡ row-at (now (self .entry) .bytes .now) r) ⌝ }
         ensures behind { λ _. ⌜ ((r : ℕ) → row ≤ r → r + 1 < rows → row-at (now (self .exit) .bytes .now) r ≡ row-at (now (self .entry) .bytes .now) (r + 1)) ⌝ }
     {
-        self.bytes.copy_within((row + 1) * ROW_SIZE..rows * ROW_SIZE, row * ROW_SIZE);
+        self.bytes
+            .copy_within((row + 1) * ROW_SIZE..rows * ROW_SIZE, row * ROW_SIZE);
     }
 }
 

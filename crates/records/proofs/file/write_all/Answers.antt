@@ -22,8 +22,7 @@ loop-index-again g c =
     let within : i < length ms = omega arith in
     let front : length (file-of form (take i ms)) ≡ record-size * i =
     length-file form laws (take i ms) ∙ ap (λ n. record-size * n) (length-take-le i ms (omega arith)) in
-    let written = ap (overlaid (c .loop-index .out) (record-size * i)) (c .to-record .ensures) in
-    (
+    let written = ap (overlaid (c .loop-index .out) (record-size * i)) (c .to-record .ensures) in (
       omega (arith, c .put .kept .out, inv .0),
       c .put .ensures ∙ written ∙ save-more form ms (c .args .out .now) (c .loop-index .out) i m (record-long form laws m) front within (c .index-letters-index .is) (inv .1),
     )

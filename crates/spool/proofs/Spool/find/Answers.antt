@@ -15,10 +15,10 @@ loop-row-again g c =
     let row = c .loop-row .row in
     let test : c .marks .result ≡ marks-at b seat row = c .marks .ensures ∙ ap (λ m. marked m seat) (c .mask .ensures) in
     elim (c .if-marks .came) [
-      then-marks·else-seen-place w ↦
+      | then-marks·else-seen-place w ↦
           let more = picks-yes (marks-at b seat) (letters-at (letter-of (g .B·Body .form) (g .B·Stored .blank)) b) row (sym test ∙ w .if-marks .taken) in
           (w .seen-is ∙ omega (arith, more, c .loop-row .inv .0), omega (arith, w .seen-is, w .if-seen-place .left, c .loop-row .inv .1))
-    | else-marks w ↦
+      | else-marks w ↦
           let same = picks-not (marks-at b seat) (letters-at (letter-of (g .B·Body .form) (g .B·Stored .blank)) b) row (sym test ∙ w .if-marks .left) in
           (w .seen-is ∙ c .loop-row .inv .0 ∙ sym same, omega (arith, w .seen-is, c .loop-row .inv .1))
     ]

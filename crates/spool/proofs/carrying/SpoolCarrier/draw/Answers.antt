@@ -31,9 +31,9 @@ returns g c =
     let at : getD (m .waiting seat) place (item i) ≡ item i = ap (λ p. getD (m .waiting seat) p (item i)) (sym (f .place)) ∙ picks-at test item i (s .rows) (item i) (f .row) (f .marked) in
     record {
       answer = sym (draw-ok m seat place (c .if-seat-self .left) (subst (λ w. place < w) (c .waits .ensures) (c .if-place-waits .left)));
-      leaves =
-          ( subst (λ p. Drawn m seat p (spool-of form blank (c .strike .last .self))) (f .place) (c .strike .ensures)
-          , c .read .ensures ∙ sym (getD-map parts-of (m .waiting seat) place (item i) _ below ∙ ap parts-of at)
-          );
+      leaves = (
+        subst (λ p. Drawn m seat p (spool-of form blank (c .strike .last .self))) (f .place) (c .strike .ensures),
+        c .read .ensures ∙ sym (getD-map parts-of (m .waiting seat) place (item i) _ below ∙ ap parts-of at),
+      );
       kept = tt;
     }

@@ -4,7 +4,7 @@ use Prim.Native.Nat.{ℕ, _+_, _*_, _^_, _<_, _≤_}
 use native.Mathlib.Omega.{arith}
 use lib.Dec.{leb, ltb}
 use lib.ListN.{length}
-use Rattle.std.proofs.shelf.Tests.{and-parts, leb-true}
+use Rattle.std.proofs.shelf.Tests.{and-parts, eqb-false, eqb-true, leb-true}
 use Rattle.carriers.specs.Meaning.{put-answer}
 use Rattle.carriers.proofs.Appended.{put-appended}
 use Rattle.carriers.proofs.Decisions.{put-ok}
@@ -30,17 +30,27 @@ ghost-self g c =
     let long : length a ≡ length b = c .set-mask .ensures .long ∙ c .write .ensures .long in
     let room : s .rows * 98 + 98 ≤ length b = leb-true _ _ (and-parts (ltb poster (s .seats)) (row-fits (s .rows) (length b)) (sym (c .fits-2 .ensures) ∙ c .if-not-fits .left) .1) in
     let is : mask-of (row-at a (s .rows)) ≡ mask = c .set-mask .ensures .mask in
-    let some : 0 < mask = ones-some _ (λ e. omega (arith, e, c .if-mask-gt0 .taken)) in
+    let some : 0 < mask = ones-some _ (eqb-false _ _ (sym (c .is-done .ensures) ∙ c .if-not-is-done .taken)) in
     let few : mask < 2 ^ s .seats = subst (λ m. m < 2 ^ s .seats) (sym (c .all-but-mask .ensures)) (but-below (s .seats) poster (c .if-poster-self .left)) in
-    let same : (r : ℕ) → ¬ (r ≡ s .rows) → row-at a r ≡ row-at b r = λ r ne. kept-rows mid a (s .rows) (c .set-mask .ensures .only) r ne ∙ kept-rows b mid (s .rows) (c .write .ensures .only) r ne in
-    (s .some, (s .few,
-    (subst (λ n. 98 ≤ n) (sym long) (s .spacious),
-    (omega (arith, long, room),
-    (each-written (λ m. 0 < m) (s .rows) b a (s .wanted) (s .rows) (s .rows + 1) same (omega arith) (λ l. refl) (subst (λ m. 0 < m) (sym is) some),
-    (each-written (λ m. m < 2 ^ s .seats) (s .rows) b a (s .seated) (s .rows) (s .rows + 1) same (omega arith) (λ l. refl) (subst (λ m. m < 2 ^ s .seats) (sym is) few), tt))))))
+    let same : (r : ℕ) → ¬ (r ≡ s .rows) → row-at a r ≡ row-at b r = λ r ne. kept-rows mid a (s .rows) (c .set-mask .ensures .only) r ne ∙ kept-rows b mid (s .rows) (c .write .ensures .only) r ne in (
+      s .some,
+      (
+        s .few,
+        (
+          subst (λ n. 98 ≤ n) (sym long) (s .spacious),
+          (
+            omega (arith, long, room),
+            (
+              each-written (λ m. 0 < m) (s .rows) b a (s .wanted) (s .rows) (s .rows + 1) same (omega arith) (λ l. refl) (subst (λ m. 0 < m) (sym is) some),
+              (each-written (λ m. m < 2 ^ s .seats) (s .rows) b a (s .seated) (s .rows) (s .rows + 1) same (omega arith) (λ l. refl) (subst (λ m. m < 2 ^ s .seats) (sym is) few), tt),
+            ),
+          ),
+        ),
+      ),
+    )
 
-pub returns-then-mask-gt0 : need.returns-then-mask-gt0
-returns-then-mask-gt0 g c =
+pub returns-then-not-is-done : need.returns-then-not-is-done
+returns-then-not-is-done g c =
     let s = c .args .self .now in
     let b = s .tape .bytes .now in
     let mid = c .write .last .self .bytes .now in
@@ -52,9 +62,9 @@ returns-then-mask-gt0 g c =
     let is = c .poster-poster .ensures in
     let m = spool-of form blank s in
     let exact = spooled read (s .seats) (s .rows) b a (x .poster) x (subst (λ p. p < s .seats) is (c .if-poster-self .left))
-        (λ r l. kept-rows mid a (s .rows) (c .set-mask .ensures .only) r (omega arith) ∙ kept-rows b mid (s .rows) (c .write .ensures .only) r (omega arith))
-        (c .set-mask .ensures .mask ∙ c .all-but-mask .ensures ∙ ap (all-but (s .seats)) is)
-        (ap read (c .set-mask .ensures .letter ∙ c .write .ensures .letter) ∙ letter-back blank form (g .B·Body·met .lawful) x) in
+    (λ r l. kept-rows mid a (s .rows) (c .set-mask .ensures .only) r (omega arith) ∙ kept-rows b mid (s .rows) (c .write .ensures .only) r (omega arith))
+    (c .set-mask .ensures .mask ∙ c .all-but-mask .ensures ∙ ap (all-but (s .seats)) is)
+    (ap read (c .set-mask .ensures .letter ∙ c .write .ensures .letter) ∙ letter-back blank form (g .B·Body·met .lawful) x) in
     record {
       answer = sym (ap (put-answer m) (sym is) ∙ put-ok m (c .poster-poster .result) (c .if-poster-self .left) (sym (c .fits-2 .ensures) ∙ c .if-not-fits .left));
       leaves = put-appended m (spool-meaning read (s .seats) (s .rows + 1) a) (x .poster) x refl exact;
@@ -62,8 +72,8 @@ returns-then-mask-gt0 g c =
       kept = tt;
     }
 
-pub returns-else-mask-gt0 : need.returns-else-mask-gt0
-returns-else-mask-gt0 g c =
+pub returns-else-not-is-done : need.returns-else-not-is-done
+returns-else-not-is-done g c =
     let s = c .args .self .now in
     let b = s .tape .bytes .now in
     let x = c .args .letter .now in
@@ -72,7 +82,7 @@ returns-else-mask-gt0 g c =
     let is = c .poster-poster .ensures in
     let m = spool-of form blank s in
     let few : c .all-but-mask .result < 2 ^ s .seats = subst (λ m. m < 2 ^ s .seats) (sym (c .all-but-mask .ensures)) (but-below (s .seats) (c .poster-poster .result) (c .if-poster-self .left)) in
-    let none : c .all-but-mask .result ≡ 0 = ones-none (s .seats) _ (omega (arith, c .if-mask-gt0 .left)) few in
+    let none : c .all-but-mask .result ≡ 0 = ones-none (s .seats) _ (eqb-true _ _ (sym (c .is-done .ensures) ∙ c .if-not-is-done .left)) few in
     let exact = nobody-else (letter-of form blank) (s .seats) (s .rows) b (x .poster) x (subst (λ p. p < s .seats) is (c .if-poster-self .left)) (ap (all-but (s .seats)) (sym is) ∙ sym (c .all-but-mask .ensures) ∙ none) in
     record {
       answer = sym (ap (put-answer m) (sym is) ∙ put-ok m (c .poster-poster .result) (c .if-poster-self .left) (sym (c .fits-2 .ensures) ∙ c .if-not-fits .left));

@@ -25,10 +25,10 @@ loop-row-again g c =
     let test : c .marks .result ≡ marks-at b seat row = c .marks .ensures ∙ ap (λ m. marked m seat) (c .mask .ensures) in
     let inv = c .loop-row .inv in
     elim (c .if-marks .came) [
-      then-marks w ↦
+      | then-marks w ↦
           let more = picks-yes (marks-at b seat) (letters-at (letter-of (g .B·Body .form) (g .B·Stored .blank)) b) row (sym test ∙ w .if-marks .taken) in
           w .count-is ∙ w .saturating-add-count .ensures ∙ omega (arith, more, inv)
-    | else-marks w ↦
+      | else-marks w ↦
           let same = picks-not (marks-at b seat) (letters-at (letter-of (g .B·Body .form) (g .B·Stored .blank)) b) row (sym test ∙ w .if-marks .left) in
           w .count-is ∙ inv ∙ ap (λ n. min n (2 ^ 32 - 1)) (sym same)
     ]
