@@ -1,1 +1,4 @@
 pub mod Putting
+pub mod Meaning
+pub mod Lines
+pub mod LineLaws

@@ -1,1 +1,5 @@
-// Carriers: what brings letters from seat to seat.
+// Carriers: what takes letters from seat to seat. Lines are one make of carrier.
+pub mod carrier;
+pub mod lines;
+mod queue;
+mod rack;
