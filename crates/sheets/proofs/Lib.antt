@@ -1,0 +1,2 @@
+pub mod Converge
+pub mod Sheets

@@ -1,0 +1,3 @@
+// Sheets: what a log of letters comes to, whatever order side-by-side letters came in.
+pub mod pages;
+pub mod sheet;
