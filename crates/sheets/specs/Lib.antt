@@ -2,3 +2,5 @@ pub mod Lists
 pub mod Logs
 pub mod Pages
 pub mod Sheets
+pub mod Placing
+pub mod Timelines
