@@ -4,3 +4,7 @@ pub mod Scans
 pub mod Inserts
 pub mod Beside
 pub mod Rows
+pub mod Jobs
+pub mod Opening
+pub mod Filters
+pub mod JobSwaps

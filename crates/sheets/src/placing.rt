@@ -1,13 +1,13 @@
 // Rows that stand in an order, and how a new one goes in among them.
 ghost use mathlib.Core.Path.{_≡_};
 ghost use mathlib.Core.Bool.{Bool};
-ghost use Prim.Native.Nat.{_+_, _<_, _≤_};
+ghost use Prim.Native.Nat.{_+_, _-_, _<_, _≤_};
 ghost use lib.ListN.{length, take};
-ghost use Rattle.std.specs.Holes.{inserted};
+ghost use Rattle.std.specs.Holes.{inserted, removed};
 ghost use Rattle.sheets.specs.Placing.{place-among, placed};
 
 // A type of rows that have an order.
-pub trait Placed: Copy {
+pub(crate) trait Placed: Copy {
     ghost after: { Self → Self → Bool };
 
     // Whether this row stands after a new one.
@@ -38,10 +38,18 @@ fn insert_at<T: Copy>(rows: &mut [T], len: usize, at: usize, new: T)
 }
 
 // Puts a row where it belongs among the first `len`, which are then one more.
-pub fn insert<T: Placed>(rows: &mut [T], len: usize, new: T)
+pub(crate) fn insert<T: Placed>(rows: &mut [T], len: usize, new: T)
     requires { ⌜ len < length (now rows) ⌝ }
     ensures { λ _. ⌜ take (len + 1) (now (rows .exit)) ≡ placed (T·Placed .after) (take len (now (rows .entry))) new ⌝ }
 {
     let at = place_for(&rows[0..len], &new);
     insert_at(rows, len, at, new);
+}
+
+// Takes the row at a place out of the first `len`, which are then one less.
+pub(crate) fn remove<T: Copy>(rows: &mut [T], len: usize, at: usize)
+    requires { ⌜ at < len ⌝ ∗ ⌜ len ≤ length (now rows) ⌝ }
+    ensures { λ _. ⌜ take (len - 1) (now (rows .exit)) ≡ removed (take len (now (rows .entry))) at ⌝ }
+{
+    rows[at..len].rotate_left(1);
 }

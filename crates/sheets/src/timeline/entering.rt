@@ -16,7 +16,7 @@ use letters::stamp::Stamp;
 use letters::text::Text;
 use letters::text::reading::TextBody;
 
-pub impl Placed for Row as PlacedRow {
+impl Placed for Row as PlacedRow {
     ghost after = { row-after };
 
     fn is_after(&self, new: &Row) -> bool {
