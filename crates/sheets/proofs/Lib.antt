@@ -8,3 +8,4 @@ pub mod Jobs
 pub mod Opening
 pub mod Filters
 pub mod JobSwaps
+pub mod Codes

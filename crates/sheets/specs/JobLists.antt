@@ -1,7 +1,9 @@
 -- What a job list means: the open jobs, in order of p.n, and how many letters were entered.
-use mathlib.Core.Bool.{Bool, cond, not}
+use mathlib.Core.Path.{_≡_}
+use mathlib.Core.Bool.{Bool, cond, not, _&&_}
 use mathlib.Core.List.{List, [], _∷_, _++_}
 use Prim.Native.Nat.{ℕ, _+_}
+use lib.Dec.{eqb}
 use lib.ListN.{take}
 use Rattle.std.specs.shelf.Lists.{kept-by, leading}
 use Rattle.std.specs.declared.option.Option.{Option}
@@ -46,6 +48,18 @@ abbrev pub job-does : Job → Letter Job → List OpenJob → List OpenJob
 job-does (Add code) m jobs = with-job jobs (open-job (m .poster) (number-of m) code)
 job-does (Strike id) m jobs =
     cond (covers (m .stamp) (id .poster) (id .number)) (without-job jobs (id .poster) (id .number)) jobs
+
+-- the code of p.n after a letter: its own addition gives one, a strike of p.n by a letter that covers it takes it away,
+-- and nothing else changes it
+abbrev pub code-after : Job → Letter Job → ℕ → ℕ → Option ℕ → Option ℕ
+code-after (Add code) m p n before = cond (eqb (m .poster) p && eqb (number-of m) n) (Some code) before
+code-after (Strike id) m p n before =
+    cond (eqb (id .poster) p && eqb (id .number) n && covers (m .stamp) p n) None before
+
+-- a list of open jobs, seen as codes by their names
+abbrev pub Codes-follow : Type 0
+Codes-follow =
+    (m : Letter Job) (jobs : List OpenJob) (p n : ℕ) → code-in (job-does (m .body) m jobs) p n ≡ code-after (m .body) m p n (code-in jobs p n)
 
 -- how many letters are entered, and the open jobs
 pub record Listed : Type 0 where

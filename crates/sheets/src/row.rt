@@ -1,8 +1,7 @@
 // A row of a timeline.
 use letters::text::Text;
 
-// A letter as a timeline shows it. Its rank is the sum of its stamp's entries: how many letters its poster knew of, this
-// one among them. A letter that covers another has the greater rank.
+// A letter as a timeline shows it. Its rank is the sum of its stamp's entries.
 #[derive(Clone, Copy)]
 pub struct Row {
     pub rank: u32,

@@ -3,7 +3,7 @@ ghost use mathlib.Core.Path.{_≡_};
 ghost use mathlib.Core.Bool.{true};
 ghost use Prim.Native.Nat.{_<_, _≤_};
 ghost use lib.ListN.{length};
-ghost use Rattle.sheets.specs.JobLists.{Listed, code-in, job-entered, job-places, listed-by, no-jobs, place-of, with-job, without-job};
+ghost use Rattle.sheets.specs.JobLists.{Codes-follow, Listed, code-in, job-entered, job-places, listed-by, no-jobs, place-of, with-job, without-job};
 ghost use Rattle.sheets.specs.OpenJobs.{job-after, job-is, rising};
 use crate::job_list::JobList;
 use crate::open_job::OpenJob;
@@ -71,8 +71,15 @@ impl JobList {
         &self.rows[0..self.len]
     }
 
-    // The code of a job, where it is open.
+    // The code of a job, where it is open. The letters entered change it as their bodies say.
     pub fn code_of(&self, id: LetterId) -> Option<u32>
+        ensures answer { λ r. ⌜ r ≡ code-in (listed-by (now (self .entry)) .jobs) (id .poster) (id .number) ⌝ }
+        ensures follows { λ _. ⌜ Codes-follow ⌝ }
+    {
+        self.find_code(id)
+    }
+
+    fn find_code(&self, id: LetterId) -> Option<u32>
         ensures { λ r. ⌜ r ≡ code-in (listed-by (now (self .entry)) .jobs) (id .poster) (id .number) ⌝ }
     {
         let jobs = self.jobs();
