@@ -10,10 +10,12 @@ use lib.ListN.{length, getD}
 use Rattle.std.specs.Holes.{removed}
 use Rattle.std.specs.shelf.Lists.{kept-by}
 use Rattle.std.specs.declared.option.Option.the-variants.{Some, None}
+use Rattle.std.proofs.shelf.Lists.{length-take-le}
 use Rattle.std.proofs.shelf.Tests.{cases-bool, and-parts, and-from}
 use Rattle.std.proofs.shelf.Ways.{tells}
+use Rattle.sheets.specs.declared.job_list.JobList.{JobList}
 use Rattle.sheets.specs.declared.open_job.OpenJob.{OpenJob}
-use Rattle.sheets.specs.JobLists.{code-in, is-other, place-of, without-job}
+use Rattle.sheets.specs.JobLists.{code-in, is-other, listed-by, place-of, without-job}
 use Rattle.sheets.specs.OpenJobs.{all-after, job-after, job-is, rising}
 
 -- a list's first job is p.n, or another is
@@ -42,7 +44,7 @@ no-code (r ∷ rs) p n past = elim (cases-bool (job-is r p n)) [
   | inr other ↦ let at = place-there p n r rs other in rw other (no-code rs p n (omega arith))
 ]
 
-pub none-closed : (jobs : List OpenJob) (p n : ℕ) → length jobs ≤ place-of jobs p n → jobs ≡ without-job jobs p n
+none-closed : (jobs : List OpenJob) (p n : ℕ) → length jobs ≤ place-of jobs p n → jobs ≡ without-job jobs p n
 none-closed [] p n past = refl
 none-closed (r ∷ rs) p n past = elim (cases-bool (job-is r p n)) [
   | inl same ↦ absurd (let at = place-here p n r rs same in omega arith)
@@ -96,8 +98,16 @@ closed (r ∷ rs) p n up within =
           rw (at, other) (ap (λ l. r ∷ l) (closed rs p n (both .1) (omega arith)))
     ]
 
-pub closing : (jobs after : List OpenJob) (p n at : ℕ) → rising jobs ≡ true → at ≡ place-of jobs p n → at < length jobs → after ≡ removed jobs at →
-    (after ≡ without-job jobs p n) × (rising after ≡ true)
-closing jobs after p n at up found within out =
-    let is : after ≡ without-job jobs p n = out ∙ ap (removed jobs) found ∙ closed jobs p n up (omega arith) in
-    (is, ap rising is ∙ rising-without jobs p n up)
+-- a row found by its name in the jobs of a list, taken out; or not found
+module _ (s : JobList) (p n at : ℕ) (found : at ≡ place-of (listed-by s .jobs) p n) where
+  long : length (listed-by s .jobs) ≡ s .len
+  long = length-take-le (s .len) (s .rows) (omega (arith, s .few, s .fit, s .sized))
+
+  pub closing : at < s .len → (after : List OpenJob) → after ≡ removed (listed-by s .jobs) at → (after ≡ without-job (listed-by s .jobs) p n) × (rising after ≡ true)
+  closing within after out =
+      let is : after ≡ without-job (listed-by s .jobs) p n =
+      out ∙ ap (removed (listed-by s .jobs)) found ∙ closed (listed-by s .jobs) p n (s .ordered) (omega (arith, long)) in
+      (is, ap rising is ∙ rising-without (listed-by s .jobs) p n (s .ordered))
+
+  pub not-open : s .len ≤ at → listed-by s .jobs ≡ without-job (listed-by s .jobs) p n
+  not-open past = none-closed (listed-by s .jobs) p n (omega (arith, long))

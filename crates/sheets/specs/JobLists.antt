@@ -16,10 +16,7 @@ use Rattle.letters.specs.Order.{covers}
 use Rattle.sheets.specs.declared.job_list.JobList.{JobList}
 use Rattle.sheets.specs.declared.open_job.OpenJob.{OpenJob}
 use Rattle.sheets.specs.OpenJobs.{job-after, job-is}
-
--- how many letters can be entered
-abbrev pub job-places : ℕ
-job-places = 128
+use Rattle.sheets.specs.Sheets.{Kind}
 
 -- the job p.n with its code
 abbrev pub open-job : ℕ → ℕ → ℕ → OpenJob
@@ -71,6 +68,10 @@ no-jobs = record { count = 0; jobs = [] }
 
 abbrev pub job-entered : Listed → Letter Job → Listed
 job-entered m x = record { count = m .count + 1; jobs = job-does (x .body) x (m .jobs) }
+
+-- the kind of sheet that job lists are, with 128 places
+abbrev pub job-list-kind : Kind Listed Job
+job-list-kind = record { places = 128; count = λ m. m .count; empty = no-jobs; entered = job-entered }
 
 abbrev pub listed-by : JobList → Listed
 listed-by s = record { count = s .entered; jobs = take (s .len) (s .rows) }

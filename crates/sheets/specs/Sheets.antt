@@ -1,10 +1,10 @@
--- What every kind of sheet does. M is what its sheets can mean; B is the type of its letters' bodies.
+-- What every kind of sheet does.
 use mathlib.Core.Path.{_≡_}
 use mathlib.Core.Bool.{not}
 use mathlib.Core.List.{List}
 use Prim.Native.Nat.{ℕ, _+_, _<_, _≤_}
 use lib.Dec.{eqb, leb}
-use lib.ListN.{length}
+use lib.ListN.{length, take}
 use Rattle.std.specs.Iters.{folded}
 use Rattle.std.specs.declared.result.Result.{Result}
 use Rattle.std.specs.declared.result.Result.the-variants.{Ok, Err}
@@ -24,29 +24,49 @@ abbrev pub left-by : {M : Type 0} → Result M Reason → M → M
 left-by (Ok after) before = after
 left-by (Err why) before = before
 
-module _ {M B : Type 0} (entered : M → Letter B → M) (count : M → ℕ) (places : ℕ) where
+-- a kind of sheet: M is what its sheets can mean, and B the type of its letters' bodies
+pub record Kind (M B : Type 0) : Type 0 where
+  -- how many letters can be entered
+  pub places : ℕ
+  -- how many are entered
+  pub count : M → ℕ
+  -- what a sheet means when nothing is entered
+  pub empty : M
+  -- what it means with one letter more
+  pub entered : M → Letter B → M
+
+module _ {M B : Type 0} (kind : Kind M B) where
   -- entering a letter: refused with 18 where as many letters are entered as there are places
   abbrev pub enter-outcome : M → Letter B → Result M Reason
-  enter-outcome m x = unless (not (eqb (count m) places)) 18 (Ok (entered m x))
+  enter-outcome m x = unless (not (eqb (kind .count m) (kind .places))) 18 (Ok (kind .entered m x))
 
-  -- drawing up a log: refused with 17 where it has more letters than there are places; else its letters are entered
-  -- from the top, beginning with the empty sheet
-  abbrev pub draw-up-outcome : M → List (Letter B) → Result M Reason
-  draw-up-outcome empty log = unless (leb (length log) places) 17 (Ok (folded entered empty log))
+  -- what the letters of a log come to, entered from the top on an empty sheet
+  abbrev pub drawn-up : List (Letter B) → M
+  drawn-up log = folded (kind .entered) (kind .empty) log
 
-  -- with a place free, entering adds one to the count
-  abbrev pub Adds : Type 0
-  Adds = (m : M) (x : Letter B) → count m < places → count (entered m x) ≡ count m + 1
+  -- drawing up a log: refused with 17 where it has more letters than there are places
+  abbrev pub draw-up-outcome : List (Letter B) → Result M Reason
+  draw-up-outcome log = unless (leb (length log) (kind .places)) 17 (Ok (drawn-up log))
 
-  -- the law of sheets: with two places free, letters that are side by side may be entered in either order
-  abbrev pub Commutes : Type 0
-  Commutes =
-      (m : M) (x y : Letter B) → count m + 2 ≤ places → Side-by-side x y → entered (entered m x) y ≡ entered (entered m y) x
+  -- the first i letters of the log are entered, and no other
+  pub record Drawn-to (log : List (Letter B)) (i : ℕ) (m : M) : Type 0 where
+    pub drawn : m ≡ drawn-up (take i log)
+    pub counted : kind .count m ≡ i
 
-  -- convergence: two logs that hold the same letters, each of them once and in a causal order, are drawn up to the
-  -- same meaning
-  abbrev pub Converges : M → Type 0
-  Converges empty =
-      (log other : List (Letter B)) → length log ≤ places
+  -- what every kind of sheet keeps
+  pub record Lawful : Type 0 where
+    -- nothing is entered on an empty sheet
+    pub starts : kind .count (kind .empty) ≡ 0
+    -- with a place free, entering adds one to the count
+    pub adds : (m : M) (x : Letter B) → kind .count m < kind .places → kind .count (kind .entered m x) ≡ kind .count m + 1
+    -- with two places free, letters that are side by side may be entered in either order
+    pub commutes : (m : M) (x y : Letter B) → kind .count m + 2 ≤ kind .places → Side-by-side x y
+        → kind .entered (kind .entered m x) y ≡ kind .entered (kind .entered m y) x
+
+  -- convergence: two logs that hold the same letters, each of them once and in a causal order, come to the same,
+  -- where their length is within the places
+  abbrev pub Converges : Type 0
+  Converges =
+      (log other : List (Letter B)) → length log ≤ kind .places
       → Once log → Once other → Ordered log → Ordered other → Same-elements log other
-      → folded entered empty log ≡ folded entered empty other
+      → drawn-up log ≡ drawn-up other

@@ -11,10 +11,7 @@ use Rattle.letters.specs.Letters.{number-of}
 use Rattle.sheets.specs.declared.row.Row.{Row}
 use Rattle.sheets.specs.declared.timeline.Timeline.{Timeline}
 use Rattle.sheets.specs.Placing.{placed}
-
--- how many letters can be entered
-abbrev pub timeline-places : ℕ
-timeline-places = 256
+use Rattle.sheets.specs.Sheets.{Kind}
 
 -- a letter's row; its rank is the sum of its stamp
 abbrev pub row-of : Letter Text → Row
@@ -35,6 +32,10 @@ no-rows = record { count = 0; rows = [] }
 -- a letter's row goes before the first that stands after it, else to the end
 abbrev pub row-entered : Shown → Letter Text → Shown
 row-entered m x = record { count = m .count + 1; rows = placed row-after (m .rows) (row-of x) }
+
+-- the kind of sheet that timelines are, with 256 places
+abbrev pub timeline-kind : Kind Shown Text
+timeline-kind = record { places = 256; count = λ m. m .count; empty = no-rows; entered = row-entered }
 
 abbrev pub shown-by : Timeline → Shown
 shown-by s = record { count = s .len; rows = take (s .len) (s .rows) }

@@ -3,7 +3,7 @@ ghost use mathlib.Core.Path.{_≡_};
 ghost use mathlib.Core.Bool.{true};
 ghost use Prim.Native.Nat.{_<_, _≤_};
 ghost use lib.ListN.{length};
-ghost use Rattle.sheets.specs.JobLists.{Codes-follow, Listed, code-in, job-entered, job-places, listed-by, no-jobs, place-of, with-job, without-job};
+ghost use Rattle.sheets.specs.JobLists.{Codes-follow, Listed, code-in, job-list-kind, listed-by, no-jobs, place-of, with-job, without-job};
 ghost use Rattle.sheets.specs.OpenJobs.{job-after, job-is, rising};
 use crate::job_list::JobList;
 use crate::open_job::OpenJob;
@@ -125,13 +125,7 @@ pub impl Sheet for JobList as JobListSheet {
 
     ghost meaning = { listed-by };
 
-    ghost places = { job-places };
-
-    ghost count = { λ m. m .count };
-
-    ghost empty = { no-jobs };
-
-    ghost entered = { job-entered };
+    ghost kind = { job-list-kind };
 
     fn capacity() -> u32 {
         Self::PLACES

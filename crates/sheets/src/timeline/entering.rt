@@ -3,7 +3,7 @@ ghost use mathlib.Core.Path.{_≡_};
 ghost use lib.ListN.{length};
 ghost use Rattle.std.specs.shelf.Lists.{sum};
 ghost use Rattle.sheets.specs.Pages.{page-count};
-ghost use Rattle.sheets.specs.Timelines.{Shown, no-rows, row-after, row-entered, row-of, shown-by, timeline-places};
+ghost use Rattle.sheets.specs.Timelines.{Shown, no-rows, row-after, row-of, shown-by, timeline-kind};
 use crate::pages::pages;
 use crate::placing::Placed;
 use crate::placing::insert;
@@ -92,13 +92,7 @@ pub impl Sheet for Timeline as TimelineSheet {
 
     ghost meaning = { shown-by };
 
-    ghost places = { timeline-places };
-
-    ghost count = { λ m. m .count };
-
-    ghost empty = { no-rows };
-
-    ghost entered = { row-entered };
+    ghost kind = { timeline-kind };
 
     fn capacity() -> u32 {
         Self::PLACES
