@@ -1,0 +1,8 @@
+pub mod Lists
+pub mod Logs
+pub mod Pages
+pub mod Sheets
+pub mod Placing
+pub mod Timelines
+pub mod OpenJobs
+pub mod JobLists
