@@ -1,0 +1,13 @@
+pub mod Lists
+pub mod Counting
+pub mod Puts
+pub mod Steps
+pub mod Logs
+pub mod Books
+pub mod Holds
+pub mod Delivery
+pub mod Always
+pub mod Settling
+pub mod Theorems
+pub mod Telling
+pub mod Sample
