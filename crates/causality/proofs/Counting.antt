@@ -94,6 +94,17 @@ module _ {B : Type 0} (N Q : ℕ) where
     apart-codes l (λ k i. ok k (there i)) (p .1),
   )
 
+  -- such letters are at most N * Q
+  pub at-most : (l : List (Letter B)) → ((m : Letter B) → m ∈ l → Numbered m) → Once l → length l ≤ N * Q
+  at-most l ok once =
+      let long = length-map l code in
+      let most : length (map code l) ≤ N * Q = pigeonhole (N * Q) (map code l) (apart-codes l ok once) (λ n i.
+      let r = in-map code l n i in
+      let c = code-small (r .0) (ok (r .0) (r .1)) in
+      let e = r .2 in
+      omega arith) in
+      omega arith
+
   -- letters of seats other than s are fewer than N * Q
   pub fewer : (s : ℕ) → s < N → 1 ≤ Q → (l : List (Letter B)) → ((m : Letter B) → m ∈ l → Numbered m)
       → ((m : Letter B) → m ∈ l → ¬ (m .poster ≡ s)) → Once l → length l < N * Q

@@ -6,7 +6,7 @@ use native.Mathlib.Omega.{arith}
 use lib.ListN.{length, getD, replicate}
 use Rattle.std.proofs.shelf.Sorted.{shuffled-refl}
 use Rattle.letters.specs.declared.letter.Letter.{Letter}
-use Rattle.letters.specs.Letters.{Parts, entry-at, number-of, parts, parts-of}
+use Rattle.letters.specs.Letters.{Parts, entry-at, number-of, parts-of}
 use Rattle.carriers.specs.Putting.{Gains, Put}
 use Rattle.causality.specs.declared.docket.DocketState.{DocketState}
 use Rattle.causality.specs.declared.docket.DocketState.the-variants.{Clear, Out, Parked}
@@ -16,7 +16,7 @@ use Rattle.causality.specs.Worlds.{Box, World, Opened}
 use Rattle.causality.specs.Steps.{Refuses, Moves-docket, Posts, Sends, Parks, Collects, Takes, Shows, Stray, no-seat, own, past-quota, no-place, Repeat, covered, among-held, held, repeat, refuses, posts, sends, parks, collects, takes, shows}
 use Rattle.causality.specs.Runs.{Run, opened, more}
 use Rattle.causality.specs.Theorems.{Settled, Complete}
-use Rattle.causality.specs.Sample.{Arrives}
+use Rattle.causality.specs.Sample.{Arrives, first-parts}
 use Rattle.causality.proofs.Lists.{in-none}
 use Rattle.causality.proofs.Theorems.{complete-delivery}
 
@@ -35,7 +35,7 @@ zeros-after : (p : ℕ) → ¬ (p ≡ 0) → _≡_ {A = ℕ} (getD (1 ∷ replic
 zeros-after zero ne = absurd (ne refl)
 zeros-after (suc p) ne = zeros-only 15 p
 
-pub is-first : {B : Type 0} (m : Letter B) (body : B) → parts-of m ≡ parts (record { entries = 1 ∷ replicate 15 0 }) 0 body → First m
+pub is-first : {B : Type 0} (m : Letter B) (body : B) → parts-of m ≡ first-parts body → First m
 is-first {B} m body e = record {
   poster = ap (λ (x : Parts B). x .poster) e;
   one = ap (λ (x : Parts B). entry-at (x .stamp) 0) e;

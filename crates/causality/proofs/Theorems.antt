@@ -13,11 +13,12 @@ use Rattle.causality.specs.Logs.{Once, Onward, Stands}
 use Rattle.causality.specs.History.{History, posted-letters, Seen, Led-to, direct, through}
 use Rattle.causality.specs.Worlds.{World}
 use Rattle.causality.specs.Runs.{Run}
-use Rattle.causality.specs.Theorems.{In-order, Genuine, All-genuine, Causal-order, Complete-delivery, Never-stray, Order-for-sheets, Stamps-mean-led-to}
+use Rattle.causality.specs.Theorems.{In-order, Genuine, All-genuine, Causal-order, Complete-delivery, Enough-places, Order-for-sheets, Stamps-mean-led-to}
 use Rattle.causality.proofs.Lists.{in-eq, in-none, in-left, in-middle, apart-front}
+use Rattle.causality.proofs.Counting.{at-most}
 use Rattle.causality.proofs.Logs.{Log-ok}
 use Rattle.causality.proofs.Books.{Earlier, Books, clocks, logs-of, stamped-within}
-use Rattle.causality.proofs.Holds.{never-stray as no-stray}
+use Rattle.causality.proofs.Holds.{never-stray}
 use Rattle.causality.proofs.Always.{Always, always}
 use Rattle.causality.proofs.Settling.{complete}
 
@@ -137,23 +138,31 @@ causal-order = record {
 pub complete-delivery : {B : Type 0} → Complete-delivery B
 complete-delivery N Q w h run s seat settled = complete N Q w h (always N Q w h run) s seat settled
 
-pub never-stray : {B : Type 0} (N Q : ℕ) → Never-stray B N Q
-never-stray N Q w h run s seat m i other =
-    let ok = always N Q w h run in
-    no-stray N Q w h (ok .books) (ok .holds) s seat m i other
+pub enough-places : {B : Type 0} (N Q : ℕ) → Enough-places B N Q
+enough-places N Q = record {
+  hold = λ w h run s seat m i other.
+      let ok = always N Q w h run in
+      never-stray N Q w h (ok .books) (ok .holds) s seat m i other;
+  log = λ w h run s.
+      let books = always N Q w h run .books in
+      at-most N Q (w .box s .log) (λ m i. books .ids .numbered m (books .logs s .known m i)) (books .logs s .once);
+}
 
 pub order-for-sheets : {B : Type 0} → Order-for-sheets B
-order-for-sheets N Q w h run s t a a′ b b′ e f =
-    let books = always N Q w h run .books in
-    let log = books .logs s in
-    let log′ = books .logs t in
-    record {
-      once = apart-front Same-letter a a′ (subst Once e (log .once));
-      once′ = apart-front Same-letter b b′ (subst Once f (log′ .once));
-      onward = apart-front Covers-letter a a′ (subst Onward e (onward (posted-letters h) (w .box s .clock) (w .box s .log) log));
-      onward′ = apart-front Covers-letter b b′ (subst Onward f (onward (posted-letters h) (w .box t .clock) (w .box t .log) log′));
-      equal = λ m k i j same. books .ids .unique m k (log .known m (in-eq (sym e) (in-left a′ i))) (log′ .known k (in-eq (sym f) (in-left b′ j))) same;
-    }
+order-for-sheets = record {
+  equal = λ N Q w h run m k i j same. always N Q w h run .books .ids .unique m k i j same;
+  logs = λ N Q w h run s t a a′ b b′ e f.
+      let books = always N Q w h run .books in
+      let log = books .logs s in
+      let log′ = books .logs t in
+      record {
+        once = apart-front Same-letter a a′ (subst Once e (log .once));
+        once′ = apart-front Same-letter b b′ (subst Once f (log′ .once));
+        onward = apart-front Covers-letter a a′ (subst Onward e (onward (posted-letters h) (w .box s .clock) (w .box s .log) log));
+        onward′ = apart-front Covers-letter b b′ (subst Onward f (onward (posted-letters h) (w .box t .clock) (w .box t .log) log′));
+        equal = λ m k i j same. books .ids .unique m k (log .known m (in-eq (sym e) (in-left a′ i))) (log′ .known k (in-eq (sym f) (in-left b′ j))) same;
+      };
+}
 
 pub stamps-mean-led-to : {B : Type 0} → Stamps-mean-led-to B
 stamps-mean-led-to N Q w h run m m′ i j = means-led-to N Q w h (always N Q w h run) m m′ i j

@@ -24,11 +24,13 @@ pub data Deed : Type 0 where
   a-show : Deed
 
 module _ {B : Type 0} {N Q : ℕ} where
+  -- what a take was
   abbrev pub taken : {s : ℕ} {m : Letter B} {b b′ : Box B} → Outcome N Q s m b b′ → Deed
   taken (stray why same) = a-stray
   taken (repeat placed why same) = a-repeat
   taken (held placed fresh longer) = a-hold
 
+  -- what a step was
   abbrev pub deed : {w w′ : World B} {new : List (Event B)} → Step N Q w w′ new → Deed
   deed (refuses x) = a-refusal
   deed (posts x) = a-post

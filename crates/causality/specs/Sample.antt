@@ -2,11 +2,17 @@
 use mathlib.Core.Path.{_≡_}
 use mathlib.Core.List.{List, [], _∷_}
 use Prim.Native.Nat.{ℕ, _<_}
+use lib.ListN.{replicate}
 use Rattle.letters.specs.declared.letter.Letter.{Letter}
+use Rattle.letters.specs.Letters.{Parts, parts}
 use Rattle.causality.specs.History.{History}
 use Rattle.causality.specs.Worlds.{World}
 use Rattle.causality.specs.Runs.{Run, Deed, deeds, a-refusal, a-post, a-send, a-park, a-collect, a-repeat, a-hold, a-show}
 use Rattle.causality.specs.Theorems.{Settled, Complete}
+
+-- what the first letter that seat 0 posts is made of, where it has shown nothing
+abbrev pub first-parts : {B : Type 0} → B → Parts B
+first-parts body = parts (record { entries = 1 ∷ replicate 15 0 }) 0 body
 
 -- what the sample run did, the newest step first
 abbrev pub sample-deeds : List Deed

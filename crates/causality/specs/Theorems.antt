@@ -1,14 +1,15 @@
 -- What holds at all times of a room's life, over every carrier that keeps the put relation, for letters of any body B.
 use mathlib.Core.Path.{_≡_}
-use mathlib.Core.Bool.{Bool}
+use mathlib.Core.Bool.{Bool, not, _&&_}
 use mathlib.Core.List.{List, [], _∷_, _++_}
 use mathlib.Core.Logic.{_↔_}
 use Prim.Native.Nat.{ℕ, _≤_, _<_, _*_}
+use lib.ListN.{length}
 use Rattle.std.specs.Orderings.{Decides}
 use Rattle.letters.specs.declared.letter.Letter.{Letter}
-use Rattle.letters.specs.Letters.{letter-name}
+use Rattle.letters.specs.Letters.{letter-name, number-of}
 use Rattle.letters.specs.Names.{name}
-use Rattle.letters.specs.Order.{Covers, Covers-letter, Ready, Same-letter}
+use Rattle.letters.specs.Order.{Covers, Covers-letter, Ready, Same-letter, covers, same-letter}
 use Rattle.causality.specs.declared.docket.DocketState.the-variants.{Clear}
 use Rattle.causality.specs.Lists.{_∈_}
 use Rattle.causality.specs.Logs.{Once, Stands, For-sheets}
@@ -51,7 +52,11 @@ module _ {B : Type 0} where
     pub log : (m : Letter B) → (m ∈ b .log) ↔ (m ∈ posted-letters h)
     pub hold : b .hold ≡ []
 
-  -- whether m led to k, wherever the two were posted in one room
+  -- what the stamps say of whether m led to k: k covers m, and is not the same
+  abbrev pub stamps-say : Letter B → Letter B → Bool
+  stamps-say m k = covers (k .stamp) (m .poster) (number-of m) && not (same-letter m k)
+
+  -- r is whether m led to k, wherever the two were posted in one room
   abbrev pub Tells-led-to : Letter B → Letter B → Bool → Type 0
   Tells-led-to m k r =
       (N Q : ℕ) (w : World B) (h : History B) → Run N Q w h → m ∈ posted-letters h → k ∈ posted-letters h → Decides r (Led-to h m k)
@@ -66,17 +71,19 @@ abbrev pub Complete-delivery : Type 0 → Type 0
 Complete-delivery B =
     (N Q : ℕ) (w : World B) (h : History B) → Run N Q w h → (s : ℕ) → s < N → Settled N Q s w → Complete h (w .box s)
 
--- A posted letter is stray at no other seat: the hold always has a place for it.
-abbrev pub Never-stray : Type 0 → ℕ → ℕ → Type 0
-Never-stray B N Q =
-    (w : World B) (h : History B) → Run N Q w h → (s : ℕ) → s < N → (m : Letter B) → m ∈ posted-letters h → ¬ (m .poster ≡ s)
-    → ¬ (Stray N Q s (w .box s) m)
+-- A posted letter is stray at no other seat, since the hold always has a place for it; and no log outgrows its places.
+pub record Enough-places (B : Type 0) (N Q : ℕ) : Type 0 where
+  pub hold : (w : World B) (h : History B) → Run N Q w h → (s : ℕ) → s < N → (m : Letter B) → m ∈ posted-letters h
+      → ¬ (m .poster ≡ s) → ¬ (Stray N Q s (w .box s) m)
+  pub log : (w : World B) (h : History B) → Run N Q w h → (s : ℕ) → length (w .box s .log) ≤ N * Q
 
--- Any beginnings of any two logs of the room, each whole log among them, have what the sheets ask of two lists.
-abbrev pub Order-for-sheets : Type 0 → Type 0
-Order-for-sheets B =
-    (N Q : ℕ) (w : World B) (h : History B) → Run N Q w h → (s t : ℕ) (a a′ b b′ : List (Letter B))
-    → w .box s .log ≡ a ++ a′ → w .box t .log ≡ b ++ b′ → For-sheets a b
+-- Posted letters with the same poster and number are equal in every part; and any beginnings of any two logs of the room,
+-- each whole log among them, have what the sheets ask of two lists.
+pub record Order-for-sheets (B : Type 0) : Type 0 where
+  pub equal : (N Q : ℕ) (w : World B) (h : History B) → Run N Q w h → (m k : Letter B) → m ∈ posted-letters h → k ∈ posted-letters h
+      → Same-letter m k → m ≡ k
+  pub logs : (N Q : ℕ) (w : World B) (h : History B) → Run N Q w h → (s t : ℕ) (a a′ b b′ : List (Letter B))
+      → w .box s .log ≡ a ++ a′ → w .box t .log ≡ b ++ b′ → For-sheets a b
 
 -- Stamps mean happens-before: of posted letters, one led to another exactly when the other covers it and is not the same.
 abbrev pub Stamps-mean-led-to : Type 0 → Type 0

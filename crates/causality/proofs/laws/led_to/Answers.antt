@@ -4,6 +4,7 @@ use Rattle.causality.proofs.laws.led_to.Needs as need
 
 pub returns : need.returns
 returns g c = record {
-  law = stamps-mean-led-to;
+  answer = c .was-known .ensures;
   tells = tells-led-to (c .args .m .now) (c .args .k .now) (c .was-known .result) (c .was-known .ensures);
+  law = stamps-mean-led-to;
 }
