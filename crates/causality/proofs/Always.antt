@@ -1,5 +1,5 @@
--- What holds of a room at all times, by induction over its steps.
-use mathlib.Core.Path.{_≡_, sym, ap, subst}
+-- What holds of a room's books, holds and waiting letters at all times, by induction over its steps.
+use mathlib.Core.Path.{sym, ap, subst}
 use mathlib.Core.List.{List, [], _∷_, _++_}
 use Prim.Native.Nat.{ℕ}
 use Rattle.letters.specs.declared.letter.Letter.{Letter}
@@ -10,12 +10,11 @@ use Rattle.causality.specs.History.{Event, History, posted, shown, posted-lett
 use Rattle.causality.specs.Worlds.{Box, World, Opened, Same-waiting}
 use Rattle.causality.specs.Steps.{Refuses, Posts, Sends, Moves-docket, Takes, Shows, Step, refuses, posts, sends, parks, collects, takes, shows}
 use Rattle.causality.specs.Runs.{Run, opened, more}
-use Rattle.causality.proofs.Lists.{in-eq, in-none, in-middle}
+use Rattle.causality.proofs.Lists.{in-eq, in-middle}
 use Rattle.causality.proofs.Steps.{same-part}
 use Rattle.causality.proofs.Logs.{Hold-ok}
 use Rattle.causality.proofs.Books.{Books, clocks, logs-of, books-opened, books-same, books-post, books-show}
 use Rattle.causality.proofs.Holds.{Holds, Waits, holds-opened, hold-same, holds-post, holds-take, holds-show, waits-opened, waits-same, waits-send, waits-take}
-use Rattle.causality.proofs.Delivery.{Delivery, out-not-clear, parked-not-clear, delivery-same, delivery-post, delivery-send, delivery-moved, delivery-take, delivery-show}
 
 module _ {B : Type 0} (N Q : ℕ) where
   -- the invariant
@@ -23,7 +22,6 @@ module _ {B : Type 0} (N Q : ℕ) where
     pub books : Books N Q (clocks w) (logs-of w) h
     pub holds : Holds (posted-letters h) w
     pub waiting : Waits N (posted-letters h) w
-    pub delivery : Delivery N (posted-letters h) w
 
   same-waits : (w w′ : World B) (ls : List (Letter B)) → Same-waiting w w′ → Waits N ls w → Waits N ls w′
   same-waits w w′ ls same = waits-same N w w′ ls ls (λ m i. i) (λ t m i. in-eq (same t) i)
@@ -33,7 +31,6 @@ module _ {B : Type 0} (N Q : ℕ) where
     books = books-opened N Q w step;
     holds = holds-opened w step;
     waiting = waits-opened N w step;
-    delivery = λ m i t l ne. absurd (in-none i);
   }
 
   after-refusal : (w w′ : World B) (h : History B) → Refuses w w′ → Always w h → Always w′ h
@@ -41,7 +38,6 @@ module _ {B : Type 0} (N Q : ℕ) where
     books = books-same N Q w w′ h (λ t. ap (λ (b : Box B). b .clock) (step .box t)) (λ t. ap (λ (b : Box B). b .log) (step .box t)) (ok .books);
     holds = λ t. subst (λ (b : Box B). Hold-ok (posted-letters h) (b .clock) (b .hold)) (sym (step .box t)) (ok .holds t);
     waiting = same-waits w w′ (posted-letters h) (step .waiting) (ok .waiting);
-    delivery = delivery-same N w w′ (posted-letters h) (step .box) (step .waiting) (ok .delivery);
   }
 
   after-post : (m : Letter B) (w w′ : World B) (h : History B) → Posts N Q (m .poster) m w w′ → Always w h → Always w′ (posted (m .poster) m ∷ h)
@@ -49,7 +45,6 @@ module _ {B : Type 0} (N Q : ℕ) where
     books = books-post N Q m w w′ h step (ok .books);
     holds = holds-post N Q m w w′ h step (ok .books) (ok .holds);
     waiting = waits-same N w w′ (posted-letters h) (m ∷ posted-letters h) (λ k i. there i) (λ t k i. in-eq (step .waiting t) i) (ok .waiting);
-    delivery = delivery-post N Q m w w′ (posted-letters h) step (ok .delivery);
   }
 
   moved-books : (was is : DocketState) (s : ℕ) (w w′ : World B) (h : History B) → Moves-docket was is s w w′
@@ -67,17 +62,15 @@ module _ {B : Type 0} (N Q : ℕ) where
     books = moved-books Out Clear s w w′ h (step .moves) (ok .books);
     holds = moved-holds Out Clear s w w′ (posted-letters h) (step .moves) (ok .holds);
     waiting = waits-send N Q s m w w′ h step (ok .books) (ok .waiting);
-    delivery = delivery-send N Q s m w w′ h step (ok .books) (ok .delivery);
   }
 
   -- a park or a collect
-  after-move : (was is : DocketState) (s : ℕ) (w w′ : World B) (h : History B) → ¬ (is ≡ Clear) → Moves-docket was is s w w′
+  after-move : (was is : DocketState) (s : ℕ) (w w′ : World B) (h : History B) → Moves-docket was is s w w′
       → Same-waiting w w′ → Always w h → Always w′ h
-  after-move was is s w w′ h not-clear step same ok = record {
+  after-move was is s w w′ h step same ok = record {
     books = moved-books was is s w w′ h step (ok .books);
     holds = moved-holds was is s w w′ (posted-letters h) step (ok .holds);
     waiting = same-waits w w′ (posted-letters h) same (ok .waiting);
-    delivery = delivery-moved N Q was is s w w′ (posted-letters h) not-clear step same (ok .delivery);
   }
 
   after-take : (s place : ℕ) (m : Letter B) (w w′ : World B) (h : History B) → Takes N Q s place m w w′ → Always w h → Always w′ h
@@ -87,7 +80,6 @@ module _ {B : Type 0} (N Q : ℕ) where
         (same-part (λ (b : Box B). b .log) s w w′ (step .elsewhere) (step .log)) (ok .books);
     holds = holds-take N Q s place m w w′ (posted-letters h) step (ok .waiting) (ok .holds);
     waiting = waits-take N Q s place m w w′ (posted-letters h) step (ok .waiting);
-    delivery = delivery-take N Q s place m w w′ h step (ok .books) (ok .holds) (ok .delivery);
   }
 
   after-show : (s : ℕ) (m : Letter B) (w w′ : World B) (h : History B) → Shows N Q s m w w′ → Always w h → Always w′ (shown s m ∷ h)
@@ -96,7 +88,6 @@ module _ {B : Type 0} (N Q : ℕ) where
         (ok .holds s .known m (in-eq (sym (step .found)) (in-middle m (step .before) (step .after)))) (ok .books);
     holds = holds-show N Q s m w w′ (posted-letters h) step (ok .holds);
     waiting = same-waits w w′ (posted-letters h) (step .waiting) (ok .waiting);
-    delivery = delivery-show N Q s m w w′ (posted-letters h) step (ok .delivery);
   }
 
   after-step : (w w′ : World B) (h : History B) (new : List (Event B)) → Step N Q w w′ new → Always w h → Always w′ (new ++ h)
@@ -105,8 +96,8 @@ module _ {B : Type 0} (N Q : ℕ) where
       subst (λ (t : ℕ). Always w′ (posted t m ∷ h)) (step .poster)
       (after-post m w w′ h (subst (λ (t : ℕ). Posts N Q t m w w′) (sym (step .poster)) step) ok)
   after-step w w′ h new (sends {s = s} {m = m} step) ok = after-send s m w w′ h step ok
-  after-step w w′ h new (parks {s = s} step) ok = after-move Out Parked s w w′ h parked-not-clear (step .moves) (step .waiting) ok
-  after-step w w′ h new (collects {s = s} step) ok = after-move Parked Out s w w′ h out-not-clear (step .moves) (step .waiting) ok
+  after-step w w′ h new (parks {s = s} step) ok = after-move Out Parked s w w′ h (step .moves) (step .waiting) ok
+  after-step w w′ h new (collects {s = s} step) ok = after-move Parked Out s w w′ h (step .moves) (step .waiting) ok
   after-step w w′ h new (takes {s = s} {place = place} {m = m} step) ok = after-take s place m w w′ h step ok
   after-step w w′ h new (shows {s = s} {m = m} step) ok = after-show s m w w′ h step ok
 

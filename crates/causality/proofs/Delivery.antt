@@ -1,4 +1,4 @@
--- Every posted letter is on its way to every other seat, until that seat's clock covers it; and how each call keeps it so.
+-- Every posted letter is on its way to every other seat, until that seat's clock covers it; and how each step keeps it so.
 use Prim.Native.Nat.{ℕ, _≤_, _<_}
 use native.Mathlib.Omega.{arith}
 use native.Mathlib.Decide.{ℕ-discrete}
@@ -11,19 +11,21 @@ use Rattle.causality.specs.declared.docket.DocketState.the-variants.{Clear, Ou
 use Rattle.letters.specs.Letters.{number-of}
 use Rattle.letters.specs.Order.{Same-letter}
 use Rattle.causality.specs.Lists.{_∈_}
-use Rattle.causality.specs.History.{History, posted-letters}
+use Rattle.causality.specs.History.{Event, History, posted-letters}
 use Rattle.causality.specs.Worlds.{Box, World}
-use Rattle.causality.specs.Steps.{Posts, Sends, Moves-docket, Takes, Shows, Repeat, covered, among-held, Outcome, stray, repeat, held}
-use Rattle.causality.proofs.Lists.{in-eq, in-as, by-seat, in-cons, in-left, in-middle, in-cases}
+use Rattle.causality.specs.Steps.{Posts, Sends, Moves-docket, Takes, Shows, Repeat, covered, among-held, Outcome, stray, repeat, held, Step, refuses, posts, sends, parks, collects, takes, shows}
+use Rattle.causality.specs.Runs.{Run, opened, more}
+use Rattle.causality.proofs.Lists.{in-eq, in-as, in-none, by-seat, in-cons, in-left, in-middle, in-cases}
 use Rattle.causality.proofs.Puts.{gains-copy, gains-kept}
 use Rattle.causality.proofs.Steps.{same-part, post-grows, show-grows, show-own}
 use Rattle.causality.proofs.Books.{Books, clocks, logs-of}
-use Rattle.causality.proofs.Holds.{Holds, Waits, never-stray}
+use Rattle.causality.proofs.Holds.{Holds, never-stray}
+use Rattle.causality.proofs.Always.{Always, always}
 
-pub out-not-clear : ¬ (Out ≡ Clear)
+out-not-clear : ¬ (Out ≡ Clear)
 out-not-clear e = let n : _≡_ {A = ℕ} 0 1 = cc in omega arith
 
-pub parked-not-clear : ¬ (Parked ≡ Clear)
+parked-not-clear : ¬ (Parked ≡ Clear)
 parked-not-clear e = let n : _≡_ {A = ℕ} 0 1 = cc in omega arith
 
 module _ {B : Type 0} where
@@ -34,11 +36,12 @@ module _ {B : Type 0} where
     in-hold : m ∈ w .box t .hold → On-way w t m
     shown-there : number-of m ≤ w .box t .clock (m .poster) → On-way w t m
 
+  -- so does every posted letter, to every other seat
   abbrev pub Delivery : ℕ → List (Letter B) → World B → Type 0
   Delivery N ls w = (m : Letter B) → m ∈ ls → (t : ℕ) → t < N → ¬ (t ≡ m .poster) → On-way w t m
 
-  -- a letter unsent stays so, and one of the others comes to what the call makes of it
-  pub way : (w w′ : World B) (t : ℕ) (m : Letter B) → w′ .box (m .poster) .docket ≡ w .box (m .poster) .docket
+  -- a letter unsent stays so, and one of the others comes to what the step makes of it
+  way : (w w′ : World B) (t : ℕ) (m : Letter B) → w′ .box (m .poster) .docket ≡ w .box (m .poster) .docket
       → w′ .box (m .poster) .clock (m .poster) ≡ w .box (m .poster) .clock (m .poster)
       → (m ∈ w .waiting t → On-way w′ t m) → (m ∈ w .box t .hold → On-way w′ t m) → (number-of m ≤ w .box t .clock (m .poster) → On-way w′ t m)
       → On-way w t m → On-way w′ t m
@@ -47,7 +50,7 @@ module _ {B : Type 0} where
   way w w′ t m same own at-wait at-hold at-clock (in-hold i) = at-hold i
   way w w′ t m same own at-wait at-hold at-clock (shown-there l) = at-clock l
 
-  pub delivery-same : (N : ℕ) (w w′ : World B) (ls : List (Letter B)) → ((t : ℕ) → w′ .box t ≡ w .box t) → ((t : ℕ) → w′ .waiting t ≡ w .waiting t)
+  delivery-same : (N : ℕ) (w w′ : World B) (ls : List (Letter B)) → ((t : ℕ) → w′ .box t ≡ w .box t) → ((t : ℕ) → w′ .waiting t ≡ w .waiting t)
       → Delivery N ls w → Delivery N ls w′
   delivery-same N w w′ ls box waiting ok m i t l ne = way w w′ t m
       (ap (λ (b : Box B). b .docket) (box (m .poster))) (ap (λ (b : Box B). b .clock (m .poster)) (box (m .poster)))
@@ -57,7 +60,7 @@ module _ {B : Type 0} where
       (ok m i t l ne)
 
 module _ {B : Type 0} (N Q : ℕ) where
-  pub delivery-post : (m : Letter B) (w w′ : World B) (ls : List (Letter B)) → Posts N Q (m .poster) m w w′ → Delivery N ls w → Delivery N (m ∷ ls) w′
+  delivery-post : (m : Letter B) (w w′ : World B) (ls : List (Letter B)) → Posts N Q (m .poster) m w w′ → Delivery N ls w → Delivery N (m ∷ ls) w′
   delivery-post m w w′ ls step ok k i t l ne = ⊎-elim (λ (e : k ≡ m). subst (On-way w′ t) (sym e) new) (λ (j : k ∈ ls). old (ok k j t l ne)) (in-cons i)
     where
       new : On-way w′ t m
@@ -80,7 +83,7 @@ module _ {B : Type 0} (N Q : ℕ) where
     moved-clock = same-part (λ (b : Box B). b .clock) s w w′ (step .elsewhere) (step .clock)
 
     -- all but the unsent: a letter that waited waits, and so on
-    pub moved-way : (t : ℕ) (m : Letter B) → (m ∈ w .waiting t → m ∈ w′ .waiting t)
+    moved-way : (t : ℕ) (m : Letter B) → (m ∈ w .waiting t → m ∈ w′ .waiting t)
         → (¬ (w .box (m .poster) .docket ≡ Clear) → number-of m ≡ w .box (m .poster) .clock (m .poster) → On-way w′ t m) → On-way w t m → On-way w′ t m
     moved-way t m q u (unsent d n) = u d n
     moved-way t m q u (waiting-there i) = waiting-there (q i)
@@ -88,7 +91,7 @@ module _ {B : Type 0} (N Q : ℕ) where
     moved-way t m q u (shown-there l) = shown-there (subst (λ (c : ℕ → ℕ). number-of m ≤ c (m .poster)) (sym (moved-clock t)) l)
 
     -- and where the docket is not cleared, or is another's, so the unsent
-    pub moved-unsent : (t : ℕ) (m : Letter B) → (m .poster ≡ s → ¬ (is ≡ Clear))
+    moved-unsent : (t : ℕ) (m : Letter B) → (m .poster ≡ s → ¬ (is ≡ Clear))
         → ¬ (w .box (m .poster) .docket ≡ Clear) → number-of m ≡ w .box (m .poster) .clock (m .poster) → On-way w′ t m
     moved-unsent t m c d n = unsent (λ e. still e (ℕ-discrete (m .poster) s)) (n ∙ ap (λ (f : ℕ → ℕ). f (m .poster)) (sym (moved-clock (m .poster))))
       where
@@ -96,13 +99,13 @@ module _ {B : Type 0} (N Q : ℕ) where
         still e (yes p) = c p (sym (step .docket) ∙ (ap (λ (u : ℕ). w′ .box u .docket) (sym p) ∙ e))
         still e (no p) = d (ap (λ (b : Box B). b .docket) (sym (step .elsewhere (m .poster) p)) ∙ e)
 
-  pub delivery-moved : (was is : DocketState) (s : ℕ) (w w′ : World B) (ls : List (Letter B)) → ¬ (is ≡ Clear) → Moves-docket was is s w w′
+  delivery-moved : (was is : DocketState) (s : ℕ) (w w′ : World B) (ls : List (Letter B)) → ¬ (is ≡ Clear) → Moves-docket was is s w w′
       → ((t : ℕ) → w′ .waiting t ≡ w .waiting t) → Delivery N ls w → Delivery N ls w′
   delivery-moved was is s w w′ ls not-clear step same ok m i t l ne =
       moved-way was is s w w′ step t m (λ j. in-eq (sym (same t)) j)
       (moved-unsent was is s w w′ step t m (λ e. not-clear)) (ok m i t l ne)
 
-  pub delivery-send : (s : ℕ) (m : Letter B) (w w′ : World B) (h : History B) → Sends N Q s m w w′ → Books N Q (clocks w) (logs-of w) h
+  delivery-send : (s : ℕ) (m : Letter B) (w w′ : World B) (h : History B) → Sends N Q s m w w′ → Books N Q (clocks w) (logs-of w) h
       → Delivery N (posted-letters h) w → Delivery N (posted-letters h) w′
   delivery-send s m w w′ h step books ok k i t l ne =
       moved-way Out Clear s w w′ (step .moves) t k keep (λ d n. go d n (ℕ-discrete (k .poster) s)) (ok k i t l ne)
@@ -125,7 +128,7 @@ module _ {B : Type 0} (N Q : ℕ) where
           waiting-there (in-as same (gains-copy m (w .waiting t) (w′ .waiting t) (step .put .others t l (λ q. ne (q ∙ sym e)))))
       go d n (no c) = moved-unsent Out Clear s w w′ (step .moves) t k (λ e. absurd (c e)) d n
 
-  pub delivery-take : (s place : ℕ) (m : Letter B) (w w′ : World B) (h : History B) → Takes N Q s place m w w′ → Books N Q (clocks w) (logs-of w) h
+  delivery-take : (s place : ℕ) (m : Letter B) (w w′ : World B) (h : History B) → Takes N Q s place m w w′ → Books N Q (clocks w) (logs-of w) h
       → Holds (posted-letters h) w → Delivery N (posted-letters h) w → Delivery N (posted-letters h) w′
   delivery-take s place m w w′ h step books holds ok k i t l ne = way w w′ t k
       (same-part (λ (b : Box B). b .docket) s w w′ (step .elsewhere) (step .docket) (k .poster)) (ap (λ (f : ℕ → ℕ). f (k .poster)) (same-clock (k .poster)))
@@ -163,7 +166,7 @@ module _ {B : Type 0} (N Q : ℕ) where
       drawn d (inl e) = result d e (step .outcome)
       drawn d (inr j) = waiting-there (in-eq (sym (step .left)) j)
 
-  pub delivery-show : (s : ℕ) (m : Letter B) (w w′ : World B) (ls : List (Letter B)) → Shows N Q s m w w′ → Delivery N ls w → Delivery N ls w′
+  delivery-show : (s : ℕ) (m : Letter B) (w w′ : World B) (ls : List (Letter B)) → Shows N Q s m w w′ → Delivery N ls w → Delivery N ls w′
   delivery-show s m w w′ ls step ok k i t l ne = way w w′ t k
       (same-part (λ (b : Box B). b .docket) s w w′ (step .elsewhere) (step .docket) (k .poster)) (show-own N Q s m w w′ step (k .poster))
       (λ j. waiting-there (in-eq (sym (step .waiting t)) j))
@@ -176,3 +179,23 @@ module _ {B : Type 0} (N Q : ℕ) where
       found : (k ≡ m) ⊎ (k ∈ (step .before ++ step .after)) → On-way w′ s k
       found (inl e) = shown-there (subst (λ (x : Letter B). number-of x ≤ w′ .box s .clock (x .poster)) (sym e) (let a = step .own in omega arith))
       found (inr j) = in-hold (in-eq (sym (step .hold)) j)
+
+  step-delivers : (w w′ : World B) (h : History B) (new : List (Event B)) → Step N Q w w′ new → Always N Q w h
+      → Delivery N (posted-letters h) w → Delivery N (posted-letters (new ++ h)) w′
+  step-delivers w w′ h new (refuses step) kept ok = delivery-same N w w′ (posted-letters h) (step .box) (step .waiting) ok
+  step-delivers w w′ h new (posts {s = s} {m = m} step) kept ok =
+      delivery-post m w w′ (posted-letters h) (subst (λ (t : ℕ). Posts N Q t m w w′) (sym (step .poster)) step) ok
+  step-delivers w w′ h new (sends {s = s} {m = m} step) kept ok = delivery-send s m w w′ h step (kept .books) ok
+  step-delivers w w′ h new (parks {s = s} step) kept ok =
+      delivery-moved Out Parked s w w′ (posted-letters h) parked-not-clear (step .moves) (step .waiting) ok
+  step-delivers w w′ h new (collects {s = s} step) kept ok =
+      delivery-moved Parked Out s w w′ (posted-letters h) out-not-clear (step .moves) (step .waiting) ok
+  step-delivers w w′ h new (takes {s = s} {place = place} {m = m} step) kept ok =
+      delivery-take s place m w w′ h step (kept .books) (kept .holds) ok
+  step-delivers w w′ h new (shows {s = s} {m = m} step) kept ok = delivery-show s m w w′ (posted-letters h) step ok
+
+  -- at all times
+  pub delivered : (w : World B) (h : History B) → Run N Q w h → Delivery N (posted-letters h) w
+  delivered w h (opened o) = λ m i t l ne. absurd (in-none i)
+  delivered w h (more {w = v} {h = past} {new = new} run step) =
+      step-delivers v w past new step (always N Q v past run) (delivered v past run)

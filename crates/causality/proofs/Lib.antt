@@ -5,8 +5,8 @@ pub mod Steps
 pub mod Logs
 pub mod Books
 pub mod Holds
-pub mod Delivery
 pub mod Always
+pub mod Delivery
 pub mod Settling
 pub mod Theorems
 pub mod Telling

@@ -14,10 +14,11 @@ use Rattle.causality.specs.Worlds.{World}
 use Rattle.causality.specs.Theorems.{Settled, Complete}
 use Rattle.causality.proofs.Lists.{in-eq, in-none, in-cons, empty}
 use Rattle.causality.proofs.Books.{Grounded-in, Grounded}
-use Rattle.causality.proofs.Delivery.{On-way, unsent, waiting-there, in-hold, shown-there}
+use Rattle.causality.proofs.Delivery.{Delivery, On-way, unsent, waiting-there, in-hold, shown-there}
 use Rattle.causality.proofs.Always.{Always}
 
-module _ {B : Type 0} (N Q : ℕ) (w : World B) (h : History B) (ok : Always N Q w h) (s : ℕ) (seat : s < N) (settled : Settled N Q s w) where
+module _ {B : Type 0} (N Q : ℕ) (w : World B) (h : History B) (ok : Always N Q w h)
+    (delivered : Delivery N (posted-letters h) w) (s : ℕ) (seat : s < N) (settled : Settled N Q s w) where
   -- what is held is ready, once all that was posted before it is covered
   ready : (past : History B) (m : Letter B) → m ∈ posted-letters h → m ∈ w .box s .hold → ¬ (m .poster ≡ s) → Grounded-in (posted-letters past) m
       → ((k : Letter B) → k ∈ posted-letters past → number-of k ≤ w .box s .clock (k .poster)) → Ready N Q s (w .box s .clock) m
@@ -58,7 +59,7 @@ module _ {B : Type 0} (N Q : ℕ) (w : World B) (h : History B) (ok : Always N Q
 
       go : Dec (m .poster ≡ s) → number-of m ≤ w .box s .clock (m .poster)
       go (yes e) = subst (λ (t : ℕ). number-of m ≤ w .box t .clock (m .poster)) e (ok .books .ids .high m i)
-      go (no ne) = arrived ne (ok .delivery m i s seat (λ e. ne (sym e)))
+      go (no ne) = arrived ne (delivered m i s seat (λ e. ne (sym e)))
 
   all-shown : (past : History B) → Grounded past → ((m : Letter B) → m ∈ posted-letters past → m ∈ posted-letters h)
       → (m : Letter B) → m ∈ posted-letters past → number-of m ≤ w .box s .clock (m .poster)

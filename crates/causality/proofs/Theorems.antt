@@ -20,6 +20,7 @@ use Rattle.causality.proofs.Logs.{Log-ok}
 use Rattle.causality.proofs.Books.{Earlier, Books, clocks, logs-of, stamped-within}
 use Rattle.causality.proofs.Holds.{never-stray}
 use Rattle.causality.proofs.Always.{Always, always}
+use Rattle.causality.proofs.Delivery.{delivered}
 use Rattle.causality.proofs.Settling.{complete}
 
 same-itself : {B : Type 0} (m k : Letter B) → m ≡ k → Same-letter m k
@@ -136,7 +137,7 @@ causal-order = record {
 }
 
 pub complete-delivery : {B : Type 0} → Complete-delivery B
-complete-delivery N Q w h run s seat settled = complete N Q w h (always N Q w h run) s seat settled
+complete-delivery N Q w h run s seat settled = complete N Q w h (always N Q w h run) (delivered N Q w h run) s seat settled
 
 pub enough-places : {B : Type 0} (N Q : ℕ) → Enough-places B N Q
 enough-places N Q = record {
