@@ -18,7 +18,7 @@ use Rattle.causality.proofs.Holds.{Holds, Waits, holds-opened, hold-same, hold
 
 module _ {B : Type 0} (N Q : ℕ) where
   -- the invariant
-  pub record Always (w : World B) (h : History B) : Type 0 where
+  pub record Always (w : World B) (h : History (Letter B)) : Type 0 where
     pub books : Books N Q (clocks w) (logs-of w) h
     pub holds : Holds (posted-letters h) w
     pub waiting : Waits N (posted-letters h) w
@@ -33,21 +33,21 @@ module _ {B : Type 0} (N Q : ℕ) where
     waiting = waits-opened N w step;
   }
 
-  after-refusal : (w w′ : World B) (h : History B) → Refuses w w′ → Always w h → Always w′ h
+  after-refusal : (w w′ : World B) (h : History (Letter B)) → Refuses w w′ → Always w h → Always w′ h
   after-refusal w w′ h step ok = record {
     books = books-same N Q w w′ h (λ t. ap (λ (b : Box B). b .clock) (step .box t)) (λ t. ap (λ (b : Box B). b .log) (step .box t)) (ok .books);
     holds = λ t. subst (λ (b : Box B). Hold-ok (posted-letters h) (b .clock) (b .hold)) (sym (step .box t)) (ok .holds t);
     waiting = same-waits w w′ (posted-letters h) (step .waiting) (ok .waiting);
   }
 
-  after-post : (m : Letter B) (w w′ : World B) (h : History B) → Posts N Q (m .poster) m w w′ → Always w h → Always w′ (posted (m .poster) m ∷ h)
+  after-post : (m : Letter B) (w w′ : World B) (h : History (Letter B)) → Posts N Q (m .poster) m w w′ → Always w h → Always w′ (posted (m .poster) m ∷ h)
   after-post m w w′ h step ok = record {
     books = books-post N Q m w w′ h step (ok .books);
     holds = holds-post N Q m w w′ h step (ok .books) (ok .holds);
     waiting = waits-same N w w′ (posted-letters h) (m ∷ posted-letters h) (λ k i. there i) (λ t k i. in-eq (step .waiting t) i) (ok .waiting);
   }
 
-  moved-books : (was is : DocketState) (s : ℕ) (w w′ : World B) (h : History B) → Moves-docket was is s w w′
+  moved-books : (was is : DocketState) (s : ℕ) (w w′ : World B) (h : History (Letter B)) → Moves-docket was is s w w′
       → Books N Q (clocks w) (logs-of w) h → Books N Q (clocks w′) (logs-of w′) h
   moved-books was is s w w′ h step ok = books-same N Q w w′ h (same-part (λ (b : Box B). b .clock) s w w′ (step .elsewhere) (step .clock))
       (same-part (λ (b : Box B). b .log) s w w′ (step .elsewhere) (step .log)) ok
@@ -57,7 +57,7 @@ module _ {B : Type 0} (N Q : ℕ) where
       hold-same ls (w .box t) (w′ .box t) (same-part (λ (b : Box B). b .clock) s w w′ (step .elsewhere) (step .clock) t)
       (same-part (λ (b : Box B). b .hold) s w w′ (step .elsewhere) (step .hold) t) (ok t)
 
-  after-send : (s : ℕ) (m : Letter B) (w w′ : World B) (h : History B) → Sends N Q s m w w′ → Always w h → Always w′ h
+  after-send : (s : ℕ) (m : Letter B) (w w′ : World B) (h : History (Letter B)) → Sends N Q s m w w′ → Always w h → Always w′ h
   after-send s m w w′ h step ok = record {
     books = moved-books Out Clear s w w′ h (step .moves) (ok .books);
     holds = moved-holds Out Clear s w w′ (posted-letters h) (step .moves) (ok .holds);
@@ -65,7 +65,7 @@ module _ {B : Type 0} (N Q : ℕ) where
   }
 
   -- a park or a collect
-  after-move : (was is : DocketState) (s : ℕ) (w w′ : World B) (h : History B) → Moves-docket was is s w w′
+  after-move : (was is : DocketState) (s : ℕ) (w w′ : World B) (h : History (Letter B)) → Moves-docket was is s w w′
       → Same-waiting w w′ → Always w h → Always w′ h
   after-move was is s w w′ h step same ok = record {
     books = moved-books was is s w w′ h step (ok .books);
@@ -73,7 +73,7 @@ module _ {B : Type 0} (N Q : ℕ) where
     waiting = same-waits w w′ (posted-letters h) same (ok .waiting);
   }
 
-  after-take : (s place : ℕ) (m : Letter B) (w w′ : World B) (h : History B) → Takes N Q s place m w w′ → Always w h → Always w′ h
+  after-take : (s place : ℕ) (m : Letter B) (w w′ : World B) (h : History (Letter B)) → Takes N Q s place m w w′ → Always w h → Always w′ h
   after-take s place m w w′ h step ok = record {
     books = books-same N Q w w′ h
         (same-part (λ (b : Box B). b .clock) s w w′ (step .elsewhere) (step .clock))
@@ -82,7 +82,7 @@ module _ {B : Type 0} (N Q : ℕ) where
     waiting = waits-take N Q s place m w w′ (posted-letters h) step (ok .waiting);
   }
 
-  after-show : (s : ℕ) (m : Letter B) (w w′ : World B) (h : History B) → Shows N Q s m w w′ → Always w h → Always w′ (shown s m ∷ h)
+  after-show : (s : ℕ) (m : Letter B) (w w′ : World B) (h : History (Letter B)) → Shows N Q s m w w′ → Always w h → Always w′ (shown s m ∷ h)
   after-show s m w w′ h step ok = record {
     books = books-show N Q s m w w′ h step
         (ok .holds s .known m (in-eq (sym (step .found)) (in-middle m (step .before) (step .after)))) (ok .books);
@@ -90,7 +90,7 @@ module _ {B : Type 0} (N Q : ℕ) where
     waiting = same-waits w w′ (posted-letters h) (step .waiting) (ok .waiting);
   }
 
-  after-step : (w w′ : World B) (h : History B) (new : List (Event B)) → Step N Q w w′ new → Always w h → Always w′ (new ++ h)
+  after-step : (w w′ : World B) (h : History (Letter B)) (new : List (Event (Letter B))) → Step N Q w w′ new → Always w h → Always w′ (new ++ h)
   after-step w w′ h new (refuses step) ok = after-refusal w w′ h step ok
   after-step w w′ h new (posts {s = s} {m = m} step) ok =
       subst (λ (t : ℕ). Always w′ (posted t m ∷ h)) (step .poster)
@@ -101,6 +101,6 @@ module _ {B : Type 0} (N Q : ℕ) where
   after-step w w′ h new (takes {s = s} {place = place} {m = m} step) ok = after-take s place m w w′ h step ok
   after-step w w′ h new (shows {s = s} {m = m} step) ok = after-show s m w w′ h step ok
 
-  pub always : (w : World B) (h : History B) → Run N Q w h → Always w h
+  pub always : (w : World B) (h : History (Letter B)) → Run N Q w h → Always w h
   always w h (opened o) = at-opening w o
   always w h (more {w = v} {h = past} {new = new} run step) = after-step v w past new step (always v past run)

@@ -29,20 +29,21 @@ module _ {B : Type 0} where
       → (k : Letter B) × (k ∈ ls) × (k .poster ≡ p) × (number-of k ≡ n)
 
   -- what a posted letter covers was posted before it
-  abbrev pub Grounded : History B → Type 0
+  abbrev pub Grounded : History (Letter B) → Type 0
   Grounded [] = Unit {0}
   Grounded (posted s m ∷ h) = Grounded-in (posted-letters h) m × Grounded h
   Grounded (shown s m ∷ h) = Grounded h
 
-  pub record Books (N Q : ℕ) (c : ℕ → ℕ → ℕ) (g : ℕ → List (Letter B)) (h : History B) : Type 0 where
+  pub record Books (N Q : ℕ) (c : ℕ → ℕ → ℕ) (g : ℕ → List (Letter B)) (h : History (Letter B)) : Type 0 where
     pub ids : Ids-ok N Q (posted-letters h) (λ s. c s s)
     pub behind : (s p : ℕ) → c s p ≤ c p p
     pub logs : (s : ℕ) → Log-ok (posted-letters h) (c s) (g s)
     pub seen : (s : ℕ) (m : Letter B) → Seen s m h → m ∈ g s
     pub logged : (s : ℕ) (m : Letter B) → m ∈ g s → Seen s m h
-    pub before : (s : ℕ) (k m : Letter B) → Before s k m h → (k ∈ posted-letters h) × Earlier k m
-    pub known : (m k : Letter B) → m ∈ posted-letters h → k ∈ posted-letters h → Covers-letter m k → ¬ (Same-letter k m) → Before (m .poster) k m h
+    pub before : (k m : Letter B) → Before k m h → (k ∈ posted-letters h) × Earlier k m
+    pub known : (m k : Letter B) → m ∈ posted-letters h → k ∈ posted-letters h → Covers-letter m k → ¬ (Same-letter k m) → Before k m h
     pub made : (m : Letter B) → m ∈ posted-letters h → posted (m .poster) m ∈ h
+    pub posts : (s : ℕ) (m : Letter B) → posted s m ∈ h → m .poster ≡ s
     pub grounded : Grounded h
 
   abbrev pub clocks : World B → ℕ → ℕ → ℕ
@@ -52,7 +53,7 @@ module _ {B : Type 0} where
   logs-of w s = w .box s .log
 
 -- no posted letter is stamped past what was posted
-pub stamped-within : {B : Type 0} (N Q : ℕ) (w : World B) (h : History B) → Books N Q (clocks w) (logs-of w) h
+pub stamped-within : {B : Type 0} (N Q : ℕ) (w : World B) (h : History (Letter B)) → Books N Q (clocks w) (logs-of w) h
     → (m : Letter B) → m ∈ posted-letters h → (p : ℕ) → entry-at (m .stamp) p ≤ w .box p .clock p
 stamped-within N Q w h ok m i p =
     let a = ok .logs (m .poster) .below m (ok .logs (m .poster) .full m i (ok .ids .high m i)) p in
@@ -99,7 +100,7 @@ module _ {B : Type 0} (N Q : ℕ) (ls : List (Letter B)) (top top′ : ℕ → �
       at-own n low high (no l) = (m, here refl, refl, omega arith)
 
 -- Post.
-module _ {B : Type 0} (N Q : ℕ) (m : Letter B) (w w′ : World B) (h : History B) (step : Posts N Q (m .poster) m w w′)
+module _ {B : Type 0} (N Q : ℕ) (m : Letter B) (w w′ : World B) (h : History (Letter B)) (step : Posts N Q (m .poster) m w w′)
     (ok : Books N Q (clocks w) (logs-of w) h) where
   clock-at : (t p : ℕ) → ¬ (t ≡ m .poster) → w′ .box t .clock p ≡ w .box t .clock p
   clock-at = post-else N Q m w w′ step
@@ -154,17 +155,18 @@ module _ {B : Type 0} (N Q : ℕ) (m : Letter B) (w w′ : World B) (h : History
     before = before′;
     known = λ x k i j c d. known′ x k c d (in-cons i) (in-cons j);
     made = λ x i. made′ x (in-cons i);
+    posts = λ s x i. posts′ s x (in-cons i);
     grounded = (grounded′, ok .grounded);
   }
     where
       known′ : (x k : Letter B) → Covers-letter x k → ¬ (Same-letter k x) → (x ≡ m) ⊎ (x ∈ posted-letters h) → (k ≡ m) ⊎ (k ∈ posted-letters h)
-          → ((x .poster ≡ m .poster) × (x ≡ m) × Seen (x .poster) k h) ⊎ Before (x .poster) k x h
+          → ((x ≡ m) × Seen (m .poster) k h) ⊎ Before k x h
       known′ x k c d (inl e) (inl f) = absurd (d (subst (Same-letter k) (f ∙ sym e) (record { poster = refl; number = refl })))
       known′ x k c d (inl e) (inr j) =
           let c′ : number-of k ≤ entry-at (m .stamp) (k .poster) = subst (λ (y : Letter B). Covers-letter y k) e c in
           let a = step .clock (k .poster) in
           let i : k ∈ w .box (m .poster) .log = ok .logs (m .poster) .full k j (old k j (omega arith)) in
-          inl (ap (λ (y : Letter B). y .poster) e, e, subst (λ (y : Letter B). Seen (y .poster) k h) (sym e) (ok .logged (m .poster) k i))
+          inl (e, ok .logged (m .poster) k i)
       known′ x k c d (inr i) (inl f) =
           let c′ : number-of m ≤ entry-at (x .stamp) (m .poster) = subst (λ (y : Letter B). Covers-letter x y) f c in
           let a = stamped-within N Q w h ok x i (m .poster) in
@@ -176,17 +178,21 @@ module _ {B : Type 0} (N Q : ℕ) (m : Letter B) (w w′ : World B) (h : History
       made′ x (inl e) = here (ap (λ (y : Letter B). posted (y .poster) y) e)
       made′ x (inr i) = there (ok .made x i)
 
+      posts′ : (s : ℕ) (x : Letter B) → (posted s x ≡ posted (m .poster) m) ⊎ (posted s x ∈ h) → x .poster ≡ s
+      posts′ s x (inl e) = let a : x ≡ m = cc in let b : s ≡ m .poster = cc in ap (λ (y : Letter B). y .poster) a ∙ sym b
+      posts′ s x (inr i) = ok .posts s x i
+
       new : (k : Letter B) → k ∈ w .box (m .poster) .log → Earlier k m
       new k i = record {
         all = λ p. let a = ok .logs (m .poster) .below k i p in let b = grows (m .poster) p in let c = step .clock p in omega arith;
         own = let a = ok .logs (m .poster) .below k i (m .poster) in let b = step .own in omega arith;
       }
 
-      before′ : (s : ℕ) (k x : Letter B) → ((s ≡ m .poster) × (x ≡ m) × Seen s k h) ⊎ Before s k x h → (k ∈ (m ∷ posted-letters h)) × Earlier k x
-      before′ s k x (inl e) =
-          let i : k ∈ w .box (m .poster) .log = subst (λ (t : ℕ). k ∈ w .box t .log) (e .0) (ok .seen s k (e .2)) in
-          (there (ok .logs (m .poster) .known k i), subst (Earlier k) (sym (e .1)) (new k i))
-      before′ s k x (inr b) = let r = ok .before s k x b in (there (r .0), r .1)
+      before′ : (k x : Letter B) → ((x ≡ m) × Seen (m .poster) k h) ⊎ Before k x h → (k ∈ (m ∷ posted-letters h)) × Earlier k x
+      before′ k x (inl e) =
+          let i : k ∈ w .box (m .poster) .log = ok .seen (m .poster) k (e .1) in
+          (there (ok .logs (m .poster) .known k i), subst (Earlier k) (sym (e .0)) (new k i))
+      before′ k x (inr b) = let r = ok .before k x b in (there (r .0), r .1)
 
       grounded′ : Grounded-in (posted-letters h) m
       grounded′ p n low high other = go (ℕ-discrete p (m .poster))
@@ -201,7 +207,7 @@ module _ {B : Type 0} (N Q : ℕ) (m : Letter B) (w w′ : World B) (h : History
           go (no ne) = let a = step .rest p ne in let b = ok .behind (m .poster) p in ok .ids .listed p n low (omega arith)
 
 -- Show.
-module _ {B : Type 0} (N Q s : ℕ) (m : Letter B) (w w′ : World B) (h : History B) (step : Shows N Q s m w w′)
+module _ {B : Type 0} (N Q s : ℕ) (m : Letter B) (w w′ : World B) (h : History (Letter B)) (step : Shows N Q s m w w′)
     (listed : m ∈ posted-letters h) (ok : Books N Q (clocks w) (logs-of w) h) where
   tops-same : (p : ℕ) → w′ .box p .clock p ≡ w .box p .clock p
   tops-same = show-own N Q s m w w′ step
@@ -244,10 +250,15 @@ module _ {B : Type 0} (N Q s : ℕ) (m : Letter B) (w w′ : World B) (h : Histo
     before = ok .before;
     known = ok .known;
     made = λ k i. there (ok .made k i);
+    posts = λ t k i. shown-not-post t k (in-cons i);
     grounded = ok .grounded;
   }
+    where
+      shown-not-post : (t : ℕ) (k : Letter B) → (posted t k ≡ shown s m) ⊎ (posted t k ∈ h) → k .poster ≡ t
+      shown-not-post t k (inl e) = let n : _≡_ {A = ℕ} 0 1 = cc in absurd (omega arith)
+      shown-not-post t k (inr i) = ok .posts t k i
 
--- Opening, and the calls that change neither a clock nor a log.
+-- Opening, and the steps that change neither a clock nor a log.
 module _ {B : Type 0} (N Q : ℕ) where
   pub books-opened : (w : World B) → Opened w → Books N Q (clocks w) (logs-of w) []
   books-opened w step = record {
@@ -261,13 +272,14 @@ module _ {B : Type 0} (N Q : ℕ) where
     logs = λ s. subst (Log-ok [] (w .box s .clock)) (sym (step .log s)) (log-empty (w .box s .clock));
     seen = λ s m i. absurd i;
     logged = λ s m i. absurd (in-none (in-eq (step .log s) i));
-    before = λ s k m i. absurd i;
+    before = λ k m i. absurd i;
     known = λ m k i j c d. absurd (in-none i);
     made = λ m i. absurd (in-none i);
+    posts = λ s m i. absurd (in-none i);
     grounded = tt;
   }
 
-  pub books-same : (w w′ : World B) (h : History B) → ((t : ℕ) → w′ .box t .clock ≡ w .box t .clock)
+  pub books-same : (w w′ : World B) (h : History (Letter B)) → ((t : ℕ) → w′ .box t .clock ≡ w .box t .clock)
       → ((t : ℕ) → w′ .box t .log ≡ w .box t .log) → Books N Q (clocks w) (logs-of w) h → Books N Q (clocks w′) (logs-of w′) h
   books-same w w′ h same-clock same-log ok =
       subst₂ (λ (c : ℕ → ℕ → ℕ) (g : ℕ → List (Letter B)). Books N Q c g h) (fun-ext (λ t. sym (same-clock t))) (fun-ext (λ t. sym (same-log t))) ok

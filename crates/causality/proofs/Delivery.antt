@@ -105,7 +105,7 @@ module _ {B : Type 0} (N Q : ℕ) where
       moved-way was is s w w′ step t m (λ j. in-eq (sym (same t)) j)
       (moved-unsent was is s w w′ step t m (λ e. not-clear)) (ok m i t l ne)
 
-  delivery-send : (s : ℕ) (m : Letter B) (w w′ : World B) (h : History B) → Sends N Q s m w w′ → Books N Q (clocks w) (logs-of w) h
+  delivery-send : (s : ℕ) (m : Letter B) (w w′ : World B) (h : History (Letter B)) → Sends N Q s m w w′ → Books N Q (clocks w) (logs-of w) h
       → Delivery N (posted-letters h) w → Delivery N (posted-letters h) w′
   delivery-send s m w w′ h step books ok k i t l ne =
       moved-way Out Clear s w w′ (step .moves) t k keep (λ d n. go d n (ℕ-discrete (k .poster) s)) (ok k i t l ne)
@@ -128,7 +128,7 @@ module _ {B : Type 0} (N Q : ℕ) where
           waiting-there (in-as same (gains-copy m (w .waiting t) (w′ .waiting t) (step .put .others t l (λ q. ne (q ∙ sym e)))))
       go d n (no c) = moved-unsent Out Clear s w w′ (step .moves) t k (λ e. absurd (c e)) d n
 
-  delivery-take : (s place : ℕ) (m : Letter B) (w w′ : World B) (h : History B) → Takes N Q s place m w w′ → Books N Q (clocks w) (logs-of w) h
+  delivery-take : (s place : ℕ) (m : Letter B) (w w′ : World B) (h : History (Letter B)) → Takes N Q s place m w w′ → Books N Q (clocks w) (logs-of w) h
       → Holds (posted-letters h) w → Delivery N (posted-letters h) w → Delivery N (posted-letters h) w′
   delivery-take s place m w w′ h step books holds ok k i t l ne = way w w′ t k
       (same-part (λ (b : Box B). b .docket) s w w′ (step .elsewhere) (step .docket) (k .poster)) (ap (λ (f : ℕ → ℕ). f (k .poster)) (same-clock (k .poster)))
@@ -180,7 +180,7 @@ module _ {B : Type 0} (N Q : ℕ) where
       found (inl e) = shown-there (subst (λ (x : Letter B). number-of x ≤ w′ .box s .clock (x .poster)) (sym e) (let a = step .own in omega arith))
       found (inr j) = in-hold (in-eq (sym (step .hold)) j)
 
-  step-delivers : (w w′ : World B) (h : History B) (new : List (Event B)) → Step N Q w w′ new → Always N Q w h
+  step-delivers : (w w′ : World B) (h : History (Letter B)) (new : List (Event (Letter B))) → Step N Q w w′ new → Always N Q w h
       → Delivery N (posted-letters h) w → Delivery N (posted-letters (new ++ h)) w′
   step-delivers w w′ h new (refuses step) kept ok = delivery-same N w w′ (posted-letters h) (step .box) (step .waiting) ok
   step-delivers w w′ h new (posts {s = s} {m = m} step) kept ok =
@@ -195,7 +195,7 @@ module _ {B : Type 0} (N Q : ℕ) where
   step-delivers w w′ h new (shows {s = s} {m = m} step) kept ok = delivery-show s m w w′ (posted-letters h) step ok
 
   -- at all times
-  pub delivered : (w : World B) (h : History B) → Run N Q w h → Delivery N (posted-letters h) w
+  pub delivered : (w : World B) (h : History (Letter B)) → Run N Q w h → Delivery N (posted-letters h) w
   delivered w h (opened o) = λ m i t l ne. absurd (in-none i)
   delivered w h (more {w = v} {h = past} {new = new} run step) =
       step-delivers v w past new step (always N Q v past run) (delivered v past run)

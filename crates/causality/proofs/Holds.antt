@@ -53,7 +53,7 @@ module _ {B : Type 0} where
 
 module _ {B : Type 0} (N Q : ℕ) where
   -- The hold of a seat has no letter of that seat, so it is never full, and no posted letter is stray at another seat.
-  module _ (w : World B) (h : History B) (books : Books N Q (clocks w) (logs-of w) h) (ok : Holds (posted-letters h) w) (s : ℕ) (seat : s < N) where
+  module _ (w : World B) (h : History (Letter B)) (books : Books N Q (clocks w) (logs-of w) h) (ok : Holds (posted-letters h) w) (s : ℕ) (seat : s < N) where
     not-own : (m : Letter B) → m ∈ w .box s .hold → ¬ (m .poster ≡ s)
     not-own m i e =
         let a = ok s .new m i in
@@ -74,7 +74,7 @@ module _ {B : Type 0} (N Q : ℕ) where
         let c = has-place (omega arith) in
         omega arith
 
-  pub holds-post : (m : Letter B) (w w′ : World B) (h : History B) → Posts N Q (m .poster) m w w′
+  pub holds-post : (m : Letter B) (w w′ : World B) (h : History (Letter B)) → Posts N Q (m .poster) m w w′
       → Books N Q (clocks w) (logs-of w) h → Holds (posted-letters h) w → Holds (m ∷ posted-letters h) w′
   holds-post m w w′ h step books ok = by-seat (m .poster) (λ s. Hold-ok (m ∷ posted-letters h) (w′ .box s .clock) (w′ .box s .hold))
       (subst (Hold-ok (m ∷ posted-letters h) (w′ .box (m .poster) .clock)) (sym (step .hold)) (record {
@@ -148,7 +148,7 @@ module _ {B : Type 0} (N Q : ℕ) where
           omega arith
       new′ k i (no ne) = let a = ok s .new k (was k i) in let b = step .rest (k .poster) ne in omega arith
 
-  pub waits-send : (s : ℕ) (m : Letter B) (w w′ : World B) (h : History B) → Sends N Q s m w w′
+  pub waits-send : (s : ℕ) (m : Letter B) (w w′ : World B) (h : History (Letter B)) → Sends N Q s m w w′
       → Books N Q (clocks w) (logs-of w) h → Waits N (posted-letters h) w → Waits N (posted-letters h) w′
   waits-send s m w w′ h step books ok = record {
     known = λ t k l i. ⊎-elim (λ (e : (k ≡ m) × (¬ (t ≡ s))). in-as (e .0) listed) (λ (j : k ∈ w .waiting t). ok .known t k l j) (was t k l i);

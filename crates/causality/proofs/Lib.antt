@@ -1,6 +1,7 @@
 pub mod Lists
 pub mod Counting
 pub mod Puts
+pub mod Named
 pub mod Steps
 pub mod Logs
 pub mod Books

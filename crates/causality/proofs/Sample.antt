@@ -226,7 +226,7 @@ module _ {B : Type 0} (m : Letter B) (is : First m) where
   abbrev last : World B
   last = world (posted-box Clear) shown-box []
 
-  abbrev past : History B
+  abbrev past : History (Letter B)
   past = shown 1 m ∷ (posted 0 m ∷ [])
 
   abbrev all : Run 2 1 last past

@@ -17,10 +17,10 @@ use Rattle.causality.proofs.Books.{Grounded-in, Grounded}
 use Rattle.causality.proofs.Delivery.{Delivery, On-way, unsent, waiting-there, in-hold, shown-there}
 use Rattle.causality.proofs.Always.{Always}
 
-module _ {B : Type 0} (N Q : ℕ) (w : World B) (h : History B) (ok : Always N Q w h)
+module _ {B : Type 0} (N Q : ℕ) (w : World B) (h : History (Letter B)) (ok : Always N Q w h)
     (delivered : Delivery N (posted-letters h) w) (s : ℕ) (seat : s < N) (settled : Settled N Q s w) where
   -- what is held is ready, once all that was posted before it is covered
-  ready : (past : History B) (m : Letter B) → m ∈ posted-letters h → m ∈ w .box s .hold → ¬ (m .poster ≡ s) → Grounded-in (posted-letters past) m
+  ready : (past : History (Letter B)) (m : Letter B) → m ∈ posted-letters h → m ∈ w .box s .hold → ¬ (m .poster ≡ s) → Grounded-in (posted-letters past) m
       → ((k : Letter B) → k ∈ posted-letters past → number-of k ≤ w .box s .clock (k .poster)) → Ready N Q s (w .box s .clock) m
   ready past m i j ne ground below = record {
     below = ok .books .ids .numbered m i .seat;
@@ -47,7 +47,7 @@ module _ {B : Type 0} (N Q : ℕ) (w : World B) (h : History B) (ok : Always N Q
       rest′ p d (yes l) = l
       rest′ p d (no l) = reached p (entry-at (m .stamp) p) (ground p (entry-at (m .stamp) p) (omega arith) (omega arith) (λ e. d (e .0)))
 
-  shown-here : (past : History B) (m : Letter B) → m ∈ posted-letters h → Grounded-in (posted-letters past) m
+  shown-here : (past : History (Letter B)) (m : Letter B) → m ∈ posted-letters h → Grounded-in (posted-letters past) m
       → ((k : Letter B) → k ∈ posted-letters past → number-of k ≤ w .box s .clock (k .poster)) → number-of m ≤ w .box s .clock (m .poster)
   shown-here past m i ground below = go (ℕ-discrete (m .poster) s)
     where
@@ -61,7 +61,7 @@ module _ {B : Type 0} (N Q : ℕ) (w : World B) (h : History B) (ok : Always N Q
       go (yes e) = subst (λ (t : ℕ). number-of m ≤ w .box t .clock (m .poster)) e (ok .books .ids .high m i)
       go (no ne) = arrived ne (delivered m i s seat (λ e. ne (sym e)))
 
-  all-shown : (past : History B) → Grounded past → ((m : Letter B) → m ∈ posted-letters past → m ∈ posted-letters h)
+  all-shown : (past : History (Letter B)) → Grounded past → ((m : Letter B) → m ∈ posted-letters past → m ∈ posted-letters h)
       → (m : Letter B) → m ∈ posted-letters past → number-of m ≤ w .box s .clock (m .poster)
   all-shown [] g part m i = absurd (in-none i)
   all-shown (posted t k ∷ past) g part m i = go (λ x j. all-shown past (g .1) (λ y l. part y (there l)) x j) (in-cons i)

@@ -18,7 +18,7 @@ module _ {B : Type 0} where
   same-part f s w w′ elsewhere here = by-seat s (λ t. f (w′ .box t) ≡ f (w .box t)) here (λ t ne. ap f (elsewhere t ne))
 
 -- a step at seat s that adds m at the foot of its log, as a post or a show does
-module _ {B : Type 0} (s : ℕ) (m : Letter B) (w w′ : World B) (h : History B) (elsewhere : Elsewhere s w w′)
+module _ {B : Type 0} (s : ℕ) (m : Letter B) (w w′ : World B) (h : History (Letter B)) (elsewhere : Elsewhere s w w′)
     (longer : w′ .box s .log ≡ w .box s .log ++ (m ∷ [])) where
   -- then the logs have what was seen, if they had it before
   pub seen-more : ((t : ℕ) (k : Letter B) → Seen t k h → k ∈ w .box t .log)

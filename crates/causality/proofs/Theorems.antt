@@ -10,12 +10,13 @@ use Rattle.letters.specs.Names.{Name, name}
 use Rattle.letters.specs.Order.{Covers, Covers-letter, Same-letter}
 use Rattle.causality.specs.Lists.{_∈_, here, there, Apart}
 use Rattle.causality.specs.Logs.{Once, Onward, Stands}
-use Rattle.causality.specs.History.{History, posted-letters, Seen, Led-to, direct, through}
+use Rattle.causality.specs.History.{History, posted-letters, Seen, Led-to, direct, through, told}
 use Rattle.causality.specs.Worlds.{World}
 use Rattle.causality.specs.Runs.{Run}
 use Rattle.causality.specs.Theorems.{In-order, Genuine, All-genuine, Causal-order, Complete-delivery, Enough-places, Order-for-sheets, Stamps-mean-led-to}
 use Rattle.causality.proofs.Lists.{in-eq, in-none, in-left, in-middle, apart-front}
 use Rattle.causality.proofs.Counting.{at-most}
+use Rattle.causality.proofs.Named.{led-from-names}
 use Rattle.causality.proofs.Logs.{Log-ok}
 use Rattle.causality.proofs.Books.{Earlier, Books, clocks, logs-of, stamped-within}
 use Rattle.causality.proofs.Holds.{never-stray}
@@ -26,13 +27,13 @@ use Rattle.causality.proofs.Settling.{complete}
 same-itself : {B : Type 0} (m k : Letter B) → m ≡ k → Same-letter m k
 same-itself {B} m k e = record { poster = ap (λ (x : Letter B). x .poster) e; number = ap number-of e }
 
-module _ {B : Type 0} (N Q : ℕ) (w : World B) (h : History B) (ok : Always N Q w h) where
+module _ {B : Type 0} (N Q : ℕ) (w : World B) (h : History (Letter B)) (ok : Always N Q w h) where
   abbrev books : Books N Q (clocks w) (logs-of w) h
   books = ok .books
 
   -- what led to a letter was posted, and its stamp is smaller
   led : (k m : Letter B) → Led-to h k m → (k ∈ posted-letters h) × Earlier k m
-  led k m (direct b) = books .before (m .poster) k m b
+  led k m (direct b) = books .before k m b
   led k m (through {k = x} a b) =
       let p = led k x a in
       let q = led x m b in (
@@ -56,8 +57,12 @@ module _ {B : Type 0} (N Q : ℕ) (w : World B) (h : History B) (ok : Always N Q
     λ c. direct (books .known m k j i (c .0) (c .1)),
   )
 
+  -- posted letters of one name are one letter
+  unique : (m k : Letter B) → m ∈ posted-letters h → k ∈ posted-letters h → letter-name m ≡ letter-name k → m ≡ k
+  unique m k i j e = books .ids .unique m k i j (record { poster = ap (λ (x : Name). x .poster) e; number = ap (λ (x : Name). x .number) e })
+
   -- a posted letter of this name
-  listed : (m : Letter B) → m ∈ posted-letters h → (p n : ℕ) → 1 ≤ n → Covers m p n → Stands p n (posted-letters h)
+  listed : (m : Letter B) → m ∈ posted-letters h → (p n : ℕ) → 1 ≤ n → Covers m p n → Stands (name p n) (posted-letters h)
   listed m i p n low high =
       let a = stamped-within N Q w h books m i p in
       let r = books .ids .listed p n low (omega arith) in
@@ -67,14 +72,29 @@ module _ {B : Type 0} (N Q : ℕ) (w : World B) (h : History B) (ok : Always N Q
   in-order s = record {
     seen = λ m. (books .logged s m, books .seen s m);
     once = books .logs s .once;
-    led = λ a b m k e l. let p = led k m l in
-        ⊎-elim (λ (i : k ∈ a). i) (λ (q : k ≡ m). absurd (not-same k m (p .1) (same-itself k m q)))
-        (books .logs s .above a b m k e (p .0) (p .1 .all (k .poster)));
+    led = above;
+    led-by-name = by-name;
     covered = covered′;
   }
     where
+      above : (a b : List (Letter B)) (m k : Letter B) → w .box s .log ≡ a ++ (m ∷ b) → Led-to h k m → k ∈ a
+      above a b m k e l = let p = led k m l in
+          ⊎-elim (λ (i : k ∈ a). i) (λ (q : k ≡ m). absurd (not-same k m (p .1) (same-itself k m q)))
+          (books .logs s .above a b m k e (p .0) (p .1 .all (k .poster)))
+
+      by-name : (a b : List (Letter B)) (m : Letter B) (i : Name) → w .box s .log ≡ a ++ (m ∷ b) → Led-to (told letter-name h) i (letter-name m) → Stands i a
+      by-name a b m i e l =
+          let r = led-from-names letter-name h (λ k x d. books .before k x d .0) unique i (letter-name m) l in
+          let j = books .logs s .known m (in-eq (sym e) (in-middle m a b)) in
+          let same : r .after ≡ m = unique (r .after) m (r .after-in) j (r .after-is) in
+          record {
+            letter = r .before;
+            inside = above a b m (r .before) e (subst (Led-to h (r .before)) same (r .led));
+            called = r .before-is;
+          }
+
       covered′ : (a b : List (Letter B)) (m : Letter B) (p n : ℕ) → w .box s .log ≡ a ++ (m ∷ b) → 1 ≤ n → Covers m p n
-          → ¬ (letter-name m ≡ name p n) → Stands p n a
+          → ¬ (letter-name m ≡ name p n) → Stands (name p n) a
       covered′ a b m p n e low high other =
           let i = books .logs s .known m (in-eq (sym e) (in-middle m a b)) in
           let r = listed m i p n low high in
@@ -103,6 +123,7 @@ module _ {B : Type 0} (N Q : ℕ) (w : World B) (h : History B) (ok : Always N Q
     hold = λ s m i. genuine m (ok .holds s .known m i);
     waiting = λ s m l i. genuine m (ok .waiting .known s m l i);
     other = ok .waiting .other;
+    posts = λ s m i. books .posts s m i;
   }
 
 -- A log's letters cover no later one.

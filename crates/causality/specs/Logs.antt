@@ -1,10 +1,9 @@
 -- What may be said of a list of letters.
 use mathlib.Core.Path.{_≡_}
 use mathlib.Core.List.{List}
-use Prim.Native.Nat.{ℕ}
 use Rattle.letters.specs.declared.letter.Letter.{Letter}
 use Rattle.letters.specs.Letters.{letter-name}
-use Rattle.letters.specs.Names.{name}
+use Rattle.letters.specs.Names.{Name}
 use Rattle.letters.specs.Order.{Covers-letter, Same-letter}
 use Rattle.causality.specs.Lists.{_∈_, Apart}
 
@@ -17,11 +16,11 @@ module _ {B : Type 0} where
   abbrev pub Onward : List (Letter B) → Type 0
   Onward = Apart Covers-letter
 
-  -- the letter p.n stands in the list
-  pub record Stands (p n : ℕ) (l : List (Letter B)) : Type 0 where
+  -- the letter of this name stands in the list
+  pub record Stands (i : Name) (l : List (Letter B)) : Type 0 where
     pub letter : Letter B
     pub inside : letter ∈ l
-    pub called : letter-name letter ≡ name p n
+    pub called : letter-name letter ≡ i
 
   -- what the sheets ask of two lists of letters: in neither a letter stands twice or covers a later one, and letters of
   -- the two that have poster and number in common are equal in every part

@@ -7,9 +7,9 @@ use Rattle.causality.specs.Worlds.{Box, World, Opened}
 use Rattle.causality.specs.Steps.{Outcome, stray, repeat, held, Step, refuses, posts, sends, parks, collects, takes, shows}
 
 -- Any steps in any order and number, from the opening on, led to the world, and the history is what happened.
-pub data Run {B : Type 0} (N Q : ℕ) : World B → History B → Type 0 where
+pub data Run {B : Type 0} (N Q : ℕ) : World B → History (Letter B) → Type 0 where
   opened : {w : World B} → Opened w → Run N Q w []
-  more : {w w′ : World B} {h : History B} {new : List (Event B)} → Run N Q w h → Step N Q w w′ new → Run N Q w′ (new ++ h)
+  more : {w w′ : World B} {h : History (Letter B)} {new : List (Event (Letter B))} → Run N Q w h → Step N Q w w′ new → Run N Q w′ (new ++ h)
 
 -- what a step was, a take by what it answers
 pub data Deed : Type 0 where
@@ -31,7 +31,7 @@ module _ {B : Type 0} {N Q : ℕ} where
   taken (held placed fresh longer) = a-hold
 
   -- what a step was
-  abbrev pub deed : {w w′ : World B} {new : List (Event B)} → Step N Q w w′ new → Deed
+  abbrev pub deed : {w w′ : World B} {new : List (Event (Letter B))} → Step N Q w w′ new → Deed
   deed (refuses x) = a-refusal
   deed (posts x) = a-post
   deed (sends x) = a-send
@@ -41,6 +41,6 @@ module _ {B : Type 0} {N Q : ℕ} where
   deed (shows x) = a-show
 
   -- the steps of a run, the newest first
-  abbrev pub deeds : {w : World B} {h : History B} → Run N Q w h → List Deed
+  abbrev pub deeds : {w : World B} {h : History (Letter B)} → Run N Q w h → List Deed
   deeds (opened o) = []
   deeds (more run step) = deed step ∷ deeds run

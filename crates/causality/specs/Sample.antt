@@ -22,7 +22,7 @@ sample-deeds = a-show ∷ a-repeat ∷ a-hold ∷ a-refusal ∷ a-send ∷ a-col
 -- it. Then both seats are settled and complete, and the letter stands in both logs.
 pub record Arrives {B : Type 0} (m : Letter B) : Type 0 where
   pub world : World B
-  pub history : History B
+  pub history : History (Letter B)
   pub run : Run 2 1 world history
   pub did : deeds run ≡ sample-deeds
   pub settled : (s : ℕ) → s < 2 → Settled 2 1 s world

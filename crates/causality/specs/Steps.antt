@@ -123,7 +123,7 @@ module _ {B : Type 0} (N Q : ℕ) where
     pub waiting : Same-waiting w w′
 
   -- one step, with the events that it makes, the newest first
-  pub data Step (w w′ : World B) : List (Event B) → Type 0 where
+  pub data Step (w w′ : World B) : List (Event (Letter B)) → Type 0 where
     refuses : Refuses w w′ → Step w w′ []
     posts : {s : ℕ} {m : Letter B} → Posts s m w w′ → Step w w′ (posted s m ∷ [])
     sends : {s : ℕ} {m : Letter B} → Sends s m w w′ → Step w w′ []
