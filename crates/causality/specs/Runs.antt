@@ -11,6 +11,10 @@ pub data Run {B : Type 0} (N Q : ℕ) : World B → History (Letter B) → Type 
   opened : {w : World B} → Opened w → Run N Q w []
   more : {w w′ : World B} {h : History (Letter B)} {new : List (Event (Letter B))} → Run N Q w h → Step N Q w w′ new → Run N Q w′ (new ++ h)
 
+-- a statement holds at all times of every room's life
+abbrev pub At-all-times : {B : Type 0} → (ℕ → ℕ → World B → History (Letter B) → Type 0) → Type 0
+At-all-times {B} P = (N Q : ℕ) (w : World B) (h : History (Letter B)) → Run N Q w h → P N Q w h
+
 -- what a step was, a take by what it answers
 pub data Deed : Type 0 where
   a-refusal : Deed

@@ -16,7 +16,7 @@ use Rattle.causality.specs.Logs.{Once, Stands, For-sheets}
 use Rattle.causality.specs.History.{History, posted, posted-letters, Seen, Led-to, told}
 use Rattle.causality.specs.Worlds.{Box, World}
 use Rattle.causality.specs.Steps.{Stray}
-use Rattle.causality.specs.Runs.{Run}
+use Rattle.causality.specs.Runs.{Run, At-all-times}
 
 module _ {B : Type 0} where
   -- The log of seat s: what was posted or shown there, no letter twice, and above each letter everything that led to it,
@@ -59,20 +59,18 @@ module _ {B : Type 0} where
   abbrev pub stamps-say : Letter B → Letter B → Bool
   stamps-say m k = covers (k .stamp) (m .poster) (number-of m) && not (same-letter m k)
 
-  -- r is whether m led to k, wherever the two were posted in one room
+  -- r is whether m led to k, in every room where the two were posted
   abbrev pub Tells-led-to : Letter B → Letter B → Bool → Type 0
-  Tells-led-to m k r =
-      (N Q : ℕ) (w : World B) (h : History (Letter B)) → Run N Q w h → m ∈ posted-letters h → k ∈ posted-letters h → Decides r (Led-to h m k)
+  Tells-led-to m k r = At-all-times {B = B} (λ N Q w h. m ∈ posted-letters h → k ∈ posted-letters h → Decides r (Led-to h m k))
 
 -- Every log is in order, and every letter is the one that was posted.
 pub record Causal-order (B : Type 0) : Type 0 where
-  pub in-order : (N Q : ℕ) (w : World B) (h : History (Letter B)) → Run N Q w h → (s : ℕ) → In-order s h (w .box s .log)
-  pub genuine : (N Q : ℕ) (w : World B) (h : History (Letter B)) → Run N Q w h → All-genuine N w h
+  pub in-order : At-all-times {B = B} (λ N Q w h. (s : ℕ) → In-order s h (w .box s .log))
+  pub genuine : At-all-times {B = B} (λ N Q w h. All-genuine N w h)
 
 -- A seat that is settled is complete.
 abbrev pub Complete-delivery : Type 0 → Type 0
-Complete-delivery B =
-    (N Q : ℕ) (w : World B) (h : History (Letter B)) → Run N Q w h → (s : ℕ) → s < N → Settled N Q s w → Complete h (w .box s)
+Complete-delivery B = At-all-times {B = B} (λ N Q w h. (s : ℕ) → s < N → Settled N Q s w → Complete h (w .box s))
 
 -- A posted letter is stray at no other seat, since the hold always has a place for it; and no log outgrows its places.
 pub record Enough-places (B : Type 0) (N Q : ℕ) : Type 0 where
@@ -83,13 +81,11 @@ pub record Enough-places (B : Type 0) (N Q : ℕ) : Type 0 where
 -- Posted letters with the same poster and number are equal in every part; and any beginnings of any two logs of the room,
 -- each whole log among them, have what the sheets ask of two lists.
 pub record Order-for-sheets (B : Type 0) : Type 0 where
-  pub equal : (N Q : ℕ) (w : World B) (h : History (Letter B)) → Run N Q w h → (m k : Letter B) → m ∈ posted-letters h → k ∈ posted-letters h
-      → Same-letter m k → m ≡ k
-  pub logs : (N Q : ℕ) (w : World B) (h : History (Letter B)) → Run N Q w h → (s t : ℕ) (a a′ b b′ : List (Letter B))
-      → w .box s .log ≡ a ++ a′ → w .box t .log ≡ b ++ b′ → For-sheets a b
+  pub equal : At-all-times {B = B} (λ N Q w h. (m k : Letter B) → m ∈ posted-letters h → k ∈ posted-letters h → Same-letter m k → m ≡ k)
+  pub logs : At-all-times {B = B} (λ N Q w h. (s t : ℕ) (a a′ b b′ : List (Letter B))
+      → w .box s .log ≡ a ++ a′ → w .box t .log ≡ b ++ b′ → For-sheets a b)
 
 -- Stamps mean happens-before: of posted letters, one led to another exactly when the other covers it and is not the same.
 abbrev pub Stamps-mean-led-to : Type 0 → Type 0
-Stamps-mean-led-to B =
-    (N Q : ℕ) (w : World B) (h : History (Letter B)) → Run N Q w h → (m m′ : Letter B) → m ∈ posted-letters h → m′ ∈ posted-letters h
-    → Led-to h m m′ ↔ (Covers-letter m′ m × ¬ (Same-letter m m′))
+Stamps-mean-led-to B = At-all-times {B = B} (λ N Q w h. (m m′ : Letter B) → m ∈ posted-letters h → m′ ∈ posted-letters h
+    → Led-to h m m′ ↔ (Covers-letter m′ m × ¬ (Same-letter m m′)))
