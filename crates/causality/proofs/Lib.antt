@@ -11,4 +11,5 @@ pub mod Delivery
 pub mod Settling
 pub mod Theorems
 pub mod Telling
+pub mod Making
 pub mod Sample

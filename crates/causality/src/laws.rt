@@ -59,7 +59,7 @@ fn was_known<B: Copy>(m: &Letter<B>, k: &Letter<B>) -> bool
     k.covers(m.id()) && !m.is_same(k)
 }
 
-// The letter 0.1 with this body, stamped as the first post in a room; a run brings it to the other seat of two.
+// The letter 0.1 with this body, stamped as the first post in a room; a run brings it, and a reply, to every seat of three.
 pub fn first_letter<B: Copy>(body: B) -> Letter<B>
     ensures parts { λ r. ⌜ parts-of r ≡ first-parts body ⌝ }
     ensures arrives { λ r. ⌜ Arrives r ⌝ }
