@@ -1,7 +1,7 @@
 -- What led to what, told by the names of the letters, is what led to what.
 use mathlib.Core.Path.{_≡_, refl, sym, subst, _∙_}
 use mathlib.Core.List.{List, [], _∷_}
-use mathlib.Core.Logic.{_⊎_, inl, inr}
+use mathlib.Core.Logic.{inl, inr}
 use Prim.Native.Nat.{ℕ}
 use Rattle.causality.specs.Lists.{_∈_, here, there}
 use Rattle.causality.specs.History.{History, posted, shown, posted-letters, Seen, Before, Led-to, direct, through, told}

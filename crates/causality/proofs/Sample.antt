@@ -2,10 +2,9 @@
 use mathlib.Core.Path.{_≡_, refl, sym, ap, subst, _∙_}
 use mathlib.Core.Bool.{cond}
 use mathlib.Core.List.{List, [], _∷_}
-use mathlib.Core.Logic.{inl, inr, _↔_}
-use Prim.Native.Nat.{ℕ, zero, suc, _+_, _≤_, _<_}
+use mathlib.Core.Logic.{inl, _↔_}
+use Prim.Native.Nat.{ℕ, zero, suc, _≤_, _<_}
 use native.Mathlib.Omega.{arith}
-use lib.Dec.{eqb}
 use lib.ListN.{length, getD, replicate}
 use Rattle.std.proofs.shelf.Tests.{ne-eqb}
 use Rattle.letters.specs.declared.letter.Letter.{Letter}
@@ -18,7 +17,6 @@ use Rattle.causality.specs.History.{History, posted, shown, direct}
 use Rattle.causality.specs.Worlds.{Box, World}
 use Rattle.causality.specs.Steps.{Of-docket, Stray, no-seat, own, past-quota, no-place, Repeat, covered, among-held, held, repeat, refuses, posts, sends, parks, collects, takes, shows}
 use Rattle.causality.specs.Runs.{Run, opened, more}
-use Rattle.causality.specs.Theorems.{Settled, Complete}
 use Rattle.causality.specs.Sample.{Arrives, first-parts}
 use Rattle.causality.proofs.Lists.{in-eq, in-none}
 use Rattle.causality.proofs.Making.{updated, with-box, with-docket, posted-box, sent, taken, shown-box, refused, posts-made, parks-made, collects-made, sends-made, takes-made, shows-made}

@@ -2,17 +2,16 @@
 use mathlib.Core.Path.{_≡_, refl, sym, ap, subst, _∙_}
 use mathlib.Core.List.{List, [], _∷_, _++_}
 use mathlib.Core.Logic.{_⊎_, inl, inr, ⊎-elim, _↔_}
-use Prim.Native.Nat.{ℕ, _≤_, _<_}
+use Prim.Native.Nat.{ℕ, _≤_}
 use native.Mathlib.Omega.{arith}
 use Rattle.letters.specs.declared.letter.Letter.{Letter}
 use Rattle.letters.specs.Letters.{entry-at, number-of, letter-name}
 use Rattle.letters.specs.Names.{Name, name}
 use Rattle.letters.specs.Order.{Covers, Covers-letter, Same-letter}
-use Rattle.causality.specs.Lists.{_∈_, here, there, Apart}
+use Rattle.causality.specs.Lists.{_∈_, here, there}
 use Rattle.causality.specs.Logs.{Once, Onward, Stands}
-use Rattle.causality.specs.History.{History, posted-letters, Seen, Led-to, direct, through, told}
+use Rattle.causality.specs.History.{History, posted-letters, Led-to, direct, through, told}
 use Rattle.causality.specs.Worlds.{World}
-use Rattle.causality.specs.Runs.{Run}
 use Rattle.causality.specs.Theorems.{In-order, Genuine, All-genuine, Causal-order, Complete-delivery, Enough-places, Order-for-sheets, Stamps-mean-led-to}
 use Rattle.causality.proofs.Lists.{in-eq, in-none, in-left, in-middle, apart-front}
 use Rattle.causality.proofs.Counting.{at-most}

@@ -9,7 +9,8 @@ use Rattle.causality.specs.Steps.{Outcome, stray, repeat, held, Step, refuses,
 -- Any steps in any order and number, from the opening on, led to the world, and the history is what happened.
 pub data Run {B : Type 0} (N Q : ℕ) : World B → History (Letter B) → Type 0 where
   opened : {w : World B} → Opened w → Run N Q w []
-  more : {w w′ : World B} {h : History (Letter B)} {new : List (Event (Letter B))} → Run N Q w h → Step N Q w w′ new → Run N Q w′ (new ++ h)
+  more : {w w′ : World B} {h : History (Letter B)} {new : List (Event (Letter B))} → Run N Q w h → Step N Q w w′ new
+      → Run N Q w′ (new ++ h)
 
 -- a statement holds at all times of every room's life
 abbrev pub At-all-times : {B : Type 0} → (ℕ → ℕ → World B → History (Letter B) → Type 0) → Type 0

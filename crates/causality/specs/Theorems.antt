@@ -25,7 +25,8 @@ module _ {B : Type 0} where
     pub seen : (m : Letter B) → (m ∈ log) ↔ Seen s m h
     pub once : Once log
     pub led : (a b : List (Letter B)) (m k : Letter B) → log ≡ a ++ (m ∷ b) → Led-to h k m → k ∈ a
-    pub led-by-name : (a b : List (Letter B)) (m : Letter B) (i : Name) → log ≡ a ++ (m ∷ b) → Led-to (told letter-name h) i (letter-name m) → Stands i a
+    pub led-by-name : (a b : List (Letter B)) (m : Letter B) (i : Name) → log ≡ a ++ (m ∷ b)
+        → Led-to (told letter-name h) i (letter-name m) → Stands i a
     pub covered : (a b : List (Letter B)) (m : Letter B) (p n : ℕ) → log ≡ a ++ (m ∷ b) → 1 ≤ n → Covers m p n
         → ¬ (letter-name m ≡ name p n) → Stands (name p n) a
 
@@ -81,7 +82,8 @@ pub record Enough-places (B : Type 0) (N Q : ℕ) : Type 0 where
 -- Posted letters with the same poster and number are equal in every part; and any beginnings of any two logs of the room,
 -- each whole log among them, have what the sheets ask of two lists.
 pub record Order-for-sheets (B : Type 0) : Type 0 where
-  pub equal : At-all-times {B = B} (λ N Q w h. (m k : Letter B) → m ∈ posted-letters h → k ∈ posted-letters h → Same-letter m k → m ≡ k)
+  pub equal : At-all-times {B = B} (λ N Q w h. (m k : Letter B) → m ∈ posted-letters h → k ∈ posted-letters h
+      → Same-letter m k → m ≡ k)
   pub logs : At-all-times {B = B} (λ N Q w h. (s t : ℕ) (a a′ b b′ : List (Letter B))
       → w .box s .log ≡ a ++ a′ → w .box t .log ≡ b ++ b′ → For-sheets a b)
 
