@@ -1,0 +1,8 @@
+pub mod Lists
+pub mod Logs
+pub mod History
+pub mod Worlds
+pub mod Steps
+pub mod Runs
+pub mod Theorems
+pub mod Sample
