@@ -6,9 +6,11 @@ use mathlib.Core.Path.{_≡_, refl, sym, ap, _∙_, subst, subst₂, fun-ext}
 use mathlib.Core.List.{List, [], _∷_}
 use mathlib.Core.Logic.{_⊎_, inl, inr, ⊎-elim}
 use Rattle.letters.specs.declared.letter.Letter.{Letter}
-use Rattle.letters.specs.Letters.{entry-at, number-of}
-use Rattle.letters.specs.Order.{Covers-letter, Same-letter}
+use Rattle.letters.specs.Letters.{entry-at, letter-name, number-of}
+use Rattle.letters.specs.Names.{Name, name}
+use Rattle.letters.specs.Order.{Covers, Covers-letter, Same-letter}
 use Rattle.causality.specs.Lists.{_∈_, here, there}
+use Rattle.causality.specs.Logs.{Stands}
 use Rattle.causality.specs.History.{History, posted, shown, posted-letters, Seen, Before}
 use Rattle.causality.specs.Worlds.{Box, World, Opened}
 use Rattle.causality.specs.Steps.{Posts, Shows}
@@ -25,8 +27,7 @@ module _ {B : Type 0} where
 
   -- the letters p.n that m covers, but for itself, are among ls
   abbrev pub Grounded-in : List (Letter B) → Letter B → Type 0
-  Grounded-in ls m = (p n : ℕ) → 1 ≤ n → n ≤ entry-at (m .stamp) p → ¬ ((p ≡ m .poster) × (n ≡ number-of m))
-      → (k : Letter B) × (k ∈ ls) × (k .poster ≡ p) × (number-of k ≡ n)
+  Grounded-in ls m = (p n : ℕ) → 1 ≤ n → Covers m p n → ¬ (letter-name m ≡ name p n) → Stands (name p n) ls
 
   -- what a posted letter covers was posted before it
   abbrev pub Grounded : History (Letter B) → Type 0
@@ -34,21 +35,29 @@ module _ {B : Type 0} where
   Grounded (posted s m ∷ h) = Grounded-in (posted-letters h) m × Grounded h
   Grounded (shown s m ∷ h) = Grounded h
 
+  -- what holds of the clocks c, the logs g and the history
   pub record Books (N Q : ℕ) (c : ℕ → ℕ → ℕ) (g : ℕ → List (Letter B)) (h : History (Letter B)) : Type 0 where
+    -- letters are numbered by their posters, and no clock is ahead of a poster
     pub ids : Ids-ok N Q (posted-letters h) (λ s. c s s)
     pub behind : (s p : ℕ) → c s p ≤ c p p
     pub logs : (s : ℕ) → Log-ok (posted-letters h) (c s) (g s)
+    -- a log has what was seen at its box
     pub seen : (s : ℕ) (m : Letter B) → Seen s m h → m ∈ g s
     pub logged : (s : ℕ) (m : Letter B) → m ∈ g s → Seen s m h
+    -- what was seen before a post has a smaller stamp, and what a letter covers was seen before it
     pub before : (k m : Letter B) → Before k m h → (k ∈ posted-letters h) × Earlier k m
-    pub known : (m k : Letter B) → m ∈ posted-letters h → k ∈ posted-letters h → Covers-letter m k → ¬ (Same-letter k m) → Before k m h
+    pub known : (m k : Letter B) → m ∈ posted-letters h → k ∈ posted-letters h → Covers-letter m k → ¬ (Same-letter k m)
+        → Before k m h
+    -- each letter is posted at its poster's box, after what it covers
     pub made : (m : Letter B) → m ∈ posted-letters h → posted (m .poster) m ∈ h
     pub posts : (s : ℕ) (m : Letter B) → posted s m ∈ h → m .poster ≡ s
     pub grounded : Grounded h
 
+  -- the clocks of a room, seat by seat
   abbrev pub clocks : World B → ℕ → ℕ → ℕ
   clocks w s = w .box s .clock
 
+  -- the logs of a room, seat by seat
   abbrev pub logs-of : World B → ℕ → List (Letter B)
   logs-of w s = w .box s .log
 
@@ -81,9 +90,9 @@ module _ {B : Type 0} (N Q : ℕ) (ls : List (Letter B)) (top top′ : ℕ → �
         (λ (e : k ≡ m). subst (λ (x : Letter B). number-of x ≤ top′ (x .poster)) (sym e) (omega arith))
         (λ (j : k ∈ ls). let h = ok .high k j in let g = top-grows (k .poster) in omega arith) (in-cons i);
     unique = λ k l i j e. one k l e (in-cons i) (in-cons j);
-    listed = λ p n low high. by-seat (m .poster) (λ p. n ≤ top′ p → (k : Letter B) × (k ∈ (m ∷ ls)) × (k .poster ≡ p) × (number-of k ≡ n))
+    listed = λ p n low high. by-seat (m .poster) (λ p. n ≤ top′ p → Stands (name p n) (m ∷ ls))
         (λ high. at-own n low high (decLe n (top (m .poster))))
-        (λ p ne high. let e = rest p ne in old p n (ok .listed p n low (omega arith))) p high;
+        (λ p ne high. let e = rest p ne in old (name p n) (ok .listed p n low (omega arith))) p high;
   }
     where
       one : (k l : Letter B) → Same-letter k l → (k ≡ m) ⊎ (k ∈ ls) → (l ≡ m) ⊎ (l ∈ ls) → k ≡ l
@@ -92,12 +101,12 @@ module _ {B : Type 0} (N Q : ℕ) (ls : List (Letter B)) (top top′ : ℕ → �
       one k l e (inr i) (inl q) = absurd (fresh k i (subst (λ (x : Letter B). Same-letter x k) q (same-turned k l e)))
       one k l e (inr i) (inr j) = ok .unique k l i j e
 
-      old : (p n : ℕ) → (k : Letter B) × (k ∈ ls) × (k .poster ≡ p) × (number-of k ≡ n) → (k : Letter B) × (k ∈ (m ∷ ls)) × (k .poster ≡ p) × (number-of k ≡ n)
-      old p n r = (r .0, there (r .1), r .2, r .3)
+      old : (i : Name) → Stands i ls → Stands i (m ∷ ls)
+      old i r = record { letter = r .letter; inside = there (r .inside); called = r .called }
 
-      at-own : (n : ℕ) → 1 ≤ n → n ≤ top′ (m .poster) → Dec (n ≤ top (m .poster)) → (k : Letter B) × (k ∈ (m ∷ ls)) × (k .poster ≡ m .poster) × (number-of k ≡ n)
-      at-own n low high (yes l) = old (m .poster) n (ok .listed (m .poster) n low l)
-      at-own n low high (no l) = (m, here refl, refl, omega arith)
+      at-own : (n : ℕ) → 1 ≤ n → n ≤ top′ (m .poster) → Dec (n ≤ top (m .poster)) → Stands (name (m .poster) n) (m ∷ ls)
+      at-own n low high (yes l) = old (name (m .poster) n) (ok .listed (m .poster) n low l)
+      at-own n low high (no l) = let e : number-of m ≡ n = omega arith in record { letter = m; inside = here refl; called = ap (name (m .poster)) e }
 
 -- Post.
 module _ {B : Type 0} (N Q : ℕ) (m : Letter B) (w w′ : World B) (h : History (Letter B)) (step : Posts N Q (m .poster) m w w′)
@@ -197,9 +206,9 @@ module _ {B : Type 0} (N Q : ℕ) (m : Letter B) (w w′ : World B) (h : History
       grounded′ : Grounded-in (posted-letters h) m
       grounded′ p n low high other = go (ℕ-discrete p (m .poster))
         where
-          go : Dec (p ≡ m .poster) → (k : Letter B) × (k ∈ posted-letters h) × (k .poster ≡ p) × (number-of k ≡ n)
+          go : Dec (p ≡ m .poster) → Stands (name p n) (posted-letters h)
           go (yes e) =
-              let d : ¬ (n ≡ number-of m) = λ q. other (e, q) in
+              let d : ¬ (n ≡ number-of m) = λ q. other (λ j. name (sym e j) (sym q j)) in
               let a = ap (entry-at (m .stamp)) e in
               let b = ap (λ (t : ℕ). w .box t .clock t) e in
               let c = step .own in

@@ -45,7 +45,7 @@ module _ {B : Type 0} where
   hold-more : (ls : List (Letter B)) (c : ℕ → ℕ) (d : List (Letter B)) (m : Letter B) → Hold-ok ls c d → Hold-ok (m ∷ ls) c d
   hold-more ls c d m ok = record { known = λ k i. there (ok .known k i); new = ok .new; once = ok .once }
 
-  -- calls that change neither this clock nor this hold
+  -- steps that change neither this clock nor this hold
   pub hold-same : (ls : List (Letter B)) (b b′ : Box B) → b′ .clock ≡ b .clock → b′ .hold ≡ b .hold
       → Hold-ok ls (b .clock) (b .hold) → Hold-ok ls (b′ .clock) (b′ .hold)
   hold-same ls b b′ c d ok =

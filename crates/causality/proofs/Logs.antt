@@ -6,9 +6,10 @@ use mathlib.Core.List.{List, [], _∷_, _++_}
 use mathlib.Core.Logic.{_⊎_, inl, inr, ⊎-elim}
 use Rattle.letters.specs.declared.letter.Letter.{Letter}
 use Rattle.letters.specs.Letters.{entry-at, number-of}
+use Rattle.letters.specs.Names.{name}
 use Rattle.letters.specs.Order.{Same-letter, Covers-letter}
 use Rattle.causality.specs.Lists.{_∈_, there}
-use Rattle.causality.specs.Logs.{Once}
+use Rattle.causality.specs.Logs.{Once, Stands}
 use Rattle.causality.proofs.Lists.{in-eq, in-as, in-none, in-cons, in-left, in-middle, in-last-cases, split-last, apart-last}
 use Rattle.causality.proofs.Counting.{Numbered}
 
@@ -111,4 +112,4 @@ module _ {B : Type 0} where
     pub numbered : (m : Letter B) → m ∈ ls → Numbered N Q m
     pub high : (m : Letter B) → m ∈ ls → number-of m ≤ top (m .poster)
     pub unique : (m k : Letter B) → m ∈ ls → k ∈ ls → Same-letter m k → m ≡ k
-    pub listed : (p n : ℕ) → 1 ≤ n → n ≤ top p → (k : Letter B) × (k ∈ ls) × (k .poster ≡ p) × (number-of k ≡ n)
+    pub listed : (p n : ℕ) → 1 ≤ n → n ≤ top p → Stands (name p n) ls

@@ -7,8 +7,10 @@ use native.Mathlib.Omega.{arith}
 use native.Mathlib.Decide.{ℕ-discrete, decLe}
 use Rattle.letters.specs.declared.letter.Letter.{Letter}
 use Rattle.letters.specs.Letters.{entry-at, number-of}
+use Rattle.letters.specs.Names.{Name, name}
 use Rattle.letters.specs.Order.{Ready}
 use Rattle.causality.specs.Lists.{_∈_, here, there}
+use Rattle.causality.specs.Logs.{Stands}
 use Rattle.causality.specs.History.{History, posted, shown, posted-letters}
 use Rattle.causality.specs.Worlds.{World}
 use Rattle.causality.specs.Theorems.{Settled, Complete}
@@ -30,22 +32,23 @@ module _ {B : Type 0} (N Q : ℕ) (w : World B) (h : History (Letter B)) (ok : A
     known = λ p d. rest′ p d (decLe (entry-at (m .stamp) p) (w .box s .clock p));
   }
     where
-      Lower : (p n : ℕ) → Type 0
-      Lower p n = (k : Letter B) × (k ∈ posted-letters past) × (k .poster ≡ p) × (number-of k ≡ n)
-
-      reached : (p n : ℕ) → Lower p n → n ≤ w .box s .clock p
-      reached p n r = let a = below (r .0) (r .1) in let b = ap (w .box s .clock) (r .2) in let c = r .3 in omega arith
+      reached : (p n : ℕ) → Stands (name p n) (posted-letters past) → n ≤ w .box s .clock p
+      reached p n r =
+          let a = below (r .letter) (r .inside) in
+          let b = ap (λ (x : Name). w .box s .clock (x .poster)) (r .called) in
+          let c = ap (λ (x : Name). x .number) (r .called) in
+          omega arith
 
       next′ : Dec (number-of m ≤ w .box s .clock (m .poster) + 1) → number-of m ≡ w .box s .clock (m .poster) + 1
       next′ (yes l) = let a = ok .holds s .new m j in omega arith
       next′ (no l) =
-          let a = reached (m .poster) ((w .box s .clock (m .poster) + 1))
-          (ground (m .poster) ((w .box s .clock (m .poster) + 1)) (omega arith) (omega arith) (λ e. let b = e .1 in omega arith)) in
+          let a = reached (m .poster) (w .box s .clock (m .poster) + 1)
+          (ground (m .poster) (w .box s .clock (m .poster) + 1) (omega arith) (omega arith) (λ e. let b = ap (λ (x : Name). x .number) e in omega arith)) in
           absurd (omega arith)
 
       rest′ : (p : ℕ) → ¬ (p ≡ m .poster) → Dec (entry-at (m .stamp) p ≤ w .box s .clock p) → entry-at (m .stamp) p ≤ w .box s .clock p
       rest′ p d (yes l) = l
-      rest′ p d (no l) = reached p (entry-at (m .stamp) p) (ground p (entry-at (m .stamp) p) (omega arith) (omega arith) (λ e. d (e .0)))
+      rest′ p d (no l) = reached p (entry-at (m .stamp) p) (ground p (entry-at (m .stamp) p) (omega arith) (omega arith) (λ e. d (sym (ap (λ (x : Name). x .poster) e))))
 
   shown-here : (past : History (Letter B)) (m : Letter B) → m ∈ posted-letters h → Grounded-in (posted-letters past) m
       → ((k : Letter B) → k ∈ posted-letters past → number-of k ≤ w .box s .clock (k .poster)) → number-of m ≤ w .box s .clock (m .poster)

@@ -1,4 +1,4 @@
--- What one call does to the clocks and to the rest of a box.
+-- What one step does to the clocks and to the rest of a box.
 use Prim.Native.Nat.{ℕ, _≤_}
 use native.Mathlib.Omega.{arith}
 use mathlib.Core.Path.{_≡_, refl, sym, ap, subst}
@@ -12,7 +12,7 @@ use Rattle.causality.specs.Steps.{Posts, Shows}
 use Rattle.causality.proofs.Lists.{by-seat, in-as, in-eq, in-last-cases, in-left, in-middle}
 
 module _ {B : Type 0} where
-  -- a part f of a box that a call at seat s leaves as it was there
+  -- a part f of a box that a step at seat s leaves as it was there
   pub same-part : {X : Type 0} (f : Box B → X) (s : ℕ) (w w′ : World B) → Elsewhere s w w′ → f (w′ .box s) ≡ f (w .box s)
       → (t : ℕ) → f (w′ .box t) ≡ f (w .box t)
   same-part f s w w′ elsewhere here = by-seat s (λ t. f (w′ .box t) ≡ f (w .box t)) here (λ t ne. ap f (elsewhere t ne))

@@ -64,8 +64,7 @@ module _ {B : Type 0} (N Q : ℕ) (w : World B) (h : History (Letter B)) (ok : A
   listed : (m : Letter B) → m ∈ posted-letters h → (p n : ℕ) → 1 ≤ n → Covers m p n → Stands (name p n) (posted-letters h)
   listed m i p n low high =
       let a = stamped-within N Q w h books m i p in
-      let r = books .ids .listed p n low (omega arith) in
-      record { letter = r .0; inside = r .1; called = λ j. name (r .2 j) (r .3 j) }
+      books .ids .listed p n low (omega arith)
 
   pub in-order : (s : ℕ) → In-order s h (w .box s .log)
   in-order s = record {

@@ -24,7 +24,7 @@ sample-deeds =
     ∷ a-send ∷ a-post ∷ a-repeat ∷ a-show ∷ a-hold
     ∷ a-send ∷ a-collect ∷ a-park ∷ a-post ∷ []
 
--- A run brings the letter m and a reply that it led to to every seat, in this order, and then every seat is complete.
+-- A run brings the letter m, and a reply that it led to, to every seat, in this order; then every seat is complete.
 pub record Arrives {B : Type 0} (m : Letter B) : Type 0 where
   pub reply : Letter B
   pub world : World B
