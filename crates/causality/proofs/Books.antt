@@ -85,7 +85,9 @@ module _ {B : Type 0} (N Q : ℕ) (ls : List (Letter B)) (top top′ : ℕ → �
 
   pub ids-more : Ids-ok N Q (m ∷ ls) top′
   ids-more = record {
-    numbered = λ k i. ⊎-elim (λ (e : k ≡ m). subst (Numbered N Q) (sym e) (record { seat = seat; low = omega arith; high = quota })) (λ (j : k ∈ ls). ok .numbered k j) (in-cons i);
+    numbered = λ k i. ⊎-elim
+        (λ (e : k ≡ m). subst (Numbered N Q) (sym e) (record { seat = seat; low = omega arith; high = quota }))
+        (λ (j : k ∈ ls). ok .numbered k j) (in-cons i);
     high = λ k i. ⊎-elim
         (λ (e : k ≡ m). subst (λ (x : Letter B). number-of x ≤ top′ (x .poster)) (sym e) (omega arith))
         (λ (j : k ∈ ls). let h = ok .high k j in let g = top-grows (k .poster) in omega arith) (in-cons i);
@@ -141,7 +143,8 @@ module _ {B : Type 0} (N Q : ℕ) (m : Letter B) (w w′ : World B) (h : History
     new = let e = step .own in omega arith;
     grows = grows (m .poster);
     reached = λ p. let b = step .clock p in omega arith;
-    only = λ k i l. ⊎-elim {C = (number-of k ≤ w .box (m .poster) .clock (k .poster)) ⊎ (k ≡ m)} (λ (e : k ≡ m). inr e) (λ (j : k ∈ posted-letters h). inl (old k j l)) (in-cons i);
+    only = λ k i l. ⊎-elim {C = (number-of k ≤ w .box (m .poster) .clock (k .poster)) ⊎ (k ≡ m)}
+        (λ (e : k ≡ m). inr e) (λ (j : k ∈ posted-letters h). inl (old k j l)) (in-cons i);
   }
 
   post-logs : (s : ℕ) → Log-ok (m ∷ posted-letters h) (w′ .box s .clock) (w′ .box s .log)

@@ -1,5 +1,5 @@
 -- What led to what, told by the names of the letters, is what led to what.
-use mathlib.Core.Path.{_≡_, refl, sym, subst, _∙_}
+use mathlib.Core.Path.{_≡_, refl, sym, ap, subst, _∙_}
 use mathlib.Core.List.{List, [], _∷_}
 use mathlib.Core.Logic.{inl, inr}
 use Prim.Native.Nat.{ℕ}
@@ -13,6 +13,23 @@ module _ {A L : Type 0} (f : A → L) where
   seen-told s i (posted t m ∷ h) (inr x) = let r = seen-told s i h x in (r .0, inr (r .1), r .2)
   seen-told s i (shown t m ∷ h) (inl e) = (m, inl (e .0, refl), sym (e .1))
   seen-told s i (shown t m ∷ h) (inr x) = let r = seen-told s i h x in (r .0, inr (r .1), r .2)
+
+  seen-named : (s : ℕ) (x : A) (h : History A) → Seen s x h → Seen s (f x) (told f h)
+  seen-named s x [] i = absurd i
+  seen-named s x (posted t m ∷ h) (inl e) = inl (e .0, ap f (e .1))
+  seen-named s x (posted t m ∷ h) (inr i) = inr (seen-named s x h i)
+  seen-named s x (shown t m ∷ h) (inl e) = inl (e .0, ap f (e .1))
+  seen-named s x (shown t m ∷ h) (inr i) = inr (seen-named s x h i)
+
+  before-named : (x y : A) (h : History A) → Before x y h → Before (f x) (f y) (told f h)
+  before-named x y [] b = absurd b
+  before-named x y (posted t m ∷ h) (inl e) = inl (ap f (e .0), seen-named t x h (e .1))
+  before-named x y (posted t m ∷ h) (inr b) = inr (before-named x y h b)
+  before-named x y (shown t m ∷ h) b = before-named x y h b
+
+  pub led-named : (h : History A) (x y : A) → Led-to h x y → Led-to (told f h) (f x) (f y)
+  led-named h x y (direct b) = direct (before-named x y h b)
+  led-named h x y (through {k = k} a b) = through (led-named h x k a) (led-named h k y b)
 
   -- two letters, the second posted, that are told by i and j
   pub record Pair-of (R : A → A → Type 0) (h : History A) (i j : L) : Type 0 where
@@ -38,7 +55,7 @@ module _ {A L : Type 0} (f : A → L) where
   -- where letters of one name are one letter
   module _ (h : History A) (known : (x y : A) → Before x y h → x ∈ posted-letters h)
       (unique : (x y : A) → x ∈ posted-letters h → y ∈ posted-letters h → f x ≡ f y → x ≡ y) where
-    first-known : (x y : A) → Led-to h x y → x ∈ posted-letters h
+    pub first-known : (x y : A) → Led-to h x y → x ∈ posted-letters h
     first-known x y (direct b) = known x y b
     first-known x y (through {k = k} a b) = first-known x k a
 

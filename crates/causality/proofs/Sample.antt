@@ -236,4 +236,7 @@ module _ {B : Type 0} (body : B) where
 
 -- every letter of these parts is that one
 pub arrives : {B : Type 0} (x : Letter B) (body : B) → parts-of x ≡ first-parts body → Arrives x
-arrives {B} x body e = subst Arrives (sym (same-letter x (m body) (ap (λ (y : Parts B). y .stamp) e) (ap (λ (y : Parts B). y .poster) e) (ap (λ (y : Parts B). y .body) e))) (m-arrives body)
+arrives {B} x body e = subst Arrives (sym is) (m-arrives body)
+  where
+    is : x ≡ m body
+    is = same-letter x (m body) (ap (λ (y : Parts B). y .stamp) e) (ap (λ (y : Parts B). y .poster) e) (ap (λ (y : Parts B). y .body) e)

@@ -10,12 +10,12 @@ use Rattle.letters.specs.Names.{Name, name}
 use Rattle.letters.specs.Order.{Covers, Covers-letter, Same-letter}
 use Rattle.causality.specs.Lists.{_∈_, here, there}
 use Rattle.causality.specs.Logs.{Once, Onward, Stands}
-use Rattle.causality.specs.History.{History, posted-letters, Led-to, direct, through, told}
+use Rattle.causality.specs.History.{History, posted-letters, Before, Led-to, direct, through, told}
 use Rattle.causality.specs.Worlds.{World}
 use Rattle.causality.specs.Theorems.{In-order, Genuine, All-genuine, Causal-order, Complete-delivery, Enough-places, Order-for-sheets, Stamps-mean-led-to}
 use Rattle.causality.proofs.Lists.{in-eq, in-none, in-left, in-middle, apart-front}
 use Rattle.causality.proofs.Counting.{at-most}
-use Rattle.causality.proofs.Named.{led-from-names}
+use Rattle.causality.proofs.Named.{first-known, led-from-names, led-named}
 use Rattle.causality.proofs.Logs.{Log-ok}
 use Rattle.causality.proofs.Books.{Earlier, Books, clocks, logs-of, stamped-within}
 use Rattle.causality.proofs.Holds.{never-stray}
@@ -56,9 +56,23 @@ module _ {B : Type 0} (N Q : ℕ) (w : World B) (h : History (Letter B)) (ok : A
     λ c. direct (books .known m k j i (c .0) (c .1)),
   )
 
+  seen-posted : (m k : Letter B) → Before m k h → m ∈ posted-letters h
+  seen-posted m k b = books .before m k b .0
+
   -- posted letters of one name are one letter
   unique : (m k : Letter B) → m ∈ posted-letters h → k ∈ posted-letters h → letter-name m ≡ letter-name k → m ≡ k
   unique m k i j e = books .ids .unique m k i j (record { poster = ap (λ (x : Name). x .poster) e; number = ap (λ (x : Name). x .number) e })
+
+  pub led-by-names : (m k : Letter B) → m ∈ posted-letters h → k ∈ posted-letters h
+      → Led-to h m k ↔ Led-to (told letter-name h) (letter-name m) (letter-name k)
+  led-by-names m k i j = (
+    λ l. led-named letter-name h m k l,
+    λ l.
+        let r = led-from-names letter-name h seen-posted unique (letter-name m) (letter-name k) l in
+        let a : r .before ≡ m = unique (r .before) m (first-known letter-name h seen-posted unique (r .before) (r .after) (r .led)) i (r .before-is) in
+        let b : r .after ≡ k = unique (r .after) k (r .after-in) j (r .after-is) in
+        subst (λ (x : Letter B). Led-to h x k) a (subst (Led-to h (r .before)) b (r .led)),
+  )
 
   -- a posted letter of this name
   listed : (m : Letter B) → m ∈ posted-letters h → (p n : ℕ) → 1 ≤ n → Covers m p n → Stands (name p n) (posted-letters h)
@@ -82,7 +96,7 @@ module _ {B : Type 0} (N Q : ℕ) (w : World B) (h : History (Letter B)) (ok : A
 
       by-name : (a b : List (Letter B)) (m : Letter B) (i : Name) → w .box s .log ≡ a ++ (m ∷ b) → Led-to (told letter-name h) i (letter-name m) → Stands i a
       by-name a b m i e l =
-          let r = led-from-names letter-name h (λ k x d. books .before k x d .0) unique i (letter-name m) l in
+          let r = led-from-names letter-name h seen-posted unique i (letter-name m) l in
           let j = books .logs s .known m (in-eq (sym e) (in-middle m a b)) in
           let same : r .after ≡ m = unique (r .after) m (r .after-in) j (r .after-is) in
           record {
@@ -152,6 +166,7 @@ module _ {B : Type 0} where
 pub causal-order : {B : Type 0} → Causal-order B
 causal-order = record {
   in-order = λ N Q w h run s. in-order N Q w h (always N Q w h run) s;
+  by-name = λ N Q w h run m k i j. led-by-names N Q w h (always N Q w h run) m k i j;
   genuine = λ N Q w h run. all-genuine N Q w h (always N Q w h run);
 }
 

@@ -64,9 +64,11 @@ module _ {B : Type 0} where
   abbrev pub Tells-led-to : Letter B → Letter B → Bool → Type 0
   Tells-led-to m k r = At-all-times {B = B} (λ N Q w h. m ∈ posted-letters h → k ∈ posted-letters h → Decides r (Led-to h m k))
 
--- Every log is in order, and every letter is the one that was posted.
+-- Every log is in order, and every letter is the one that was posted; told by names, the same letters led to one another.
 pub record Causal-order (B : Type 0) : Type 0 where
   pub in-order : At-all-times {B = B} (λ N Q w h. (s : ℕ) → In-order s h (w .box s .log))
+  pub by-name : At-all-times {B = B} (λ N Q w h. (m k : Letter B) → m ∈ posted-letters h → k ∈ posted-letters h
+      → Led-to h m k ↔ Led-to (told letter-name h) (letter-name m) (letter-name k))
   pub genuine : At-all-times {B = B} (λ N Q w h. All-genuine N w h)
 
 -- A seat that is settled is complete.
