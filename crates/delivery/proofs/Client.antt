@@ -49,36 +49,36 @@ module _ {B : Type 0} (m : Meaning (Letter B)) (law : Lawful m) (none : Empty m)
       let p = x .poster in
       ⊎-elim
       (λ here. ⊎-elim
-          (λ own.
-              let still : mid .waiting seat ≡ [] = subst (λ k. mid .waiting k ≡ []) (sym own) (put .lists .own ∙ none p) in
-              let nothing : length (mid .waiting seat) ≡ 0 = ap length still in
-              let no-place = draw-no-place mid seat 0 (omega arith) (omega arith) in
-              let d : first-answer (m .seats) p seat ≡ Err (plain 14) = rw (lt-ltb p (m .seats) h, lt-ltb seat (m .seats) here, eq-eqb seat p own) in
-              subst Ends (sym d) (says ∙ no-place, draw-refused mid after parts-of seat 0 lent filled r (plain 14) (says ∙ no-place) left .1))
-          (λ other.
-              let gains : Gains x [] (mid .waiting seat) = subst (λ l. Gains x l (mid .waiting seat)) (none seat) (put .lists .others seat here other) in
-              let first = gained-first x (mid .waiting seat) gains in
-              let some = first .0 in
-              let said = says ∙ draw-ok mid seat 0 (omega arith) (omega arith) in
-              let d : first-answer (m .seats) p seat ≡ Ok tt = rw (lt-ltb p (m .seats) h, lt-ltb seat (m .seats) here, ne-eqb seat p other) in
-              let got = draw-accepted mid after parts-of seat 0 lent filled r said left in
-              subst Ends (sym d) (said, got .1 ∙ getD-map parts-of (mid .waiting seat) 0 x lent some ∙ ap parts-of (first .1 x)))
-          (cases-eq seat p))
+      (λ own.
+      let still : mid .waiting seat ≡ [] = subst (λ k. mid .waiting k ≡ []) (sym own) (put .lists .own ∙ none p) in
+      let nothing : length (mid .waiting seat) ≡ 0 = ap length still in
+      let no-place = draw-no-place mid seat 0 (omega arith) (omega arith) in
+      let d : first-answer (m .seats) p seat ≡ Err (plain 14) = rw (lt-ltb p (m .seats) h, lt-ltb seat (m .seats) here, eq-eqb seat p own) in
+      subst Ends (sym d) (says ∙ no-place, draw-refused mid after parts-of seat 0 lent filled r (plain 14) (says ∙ no-place) left .1))
+      (λ other.
+      let gains : Gains x [] (mid .waiting seat) = subst (λ l. Gains x l (mid .waiting seat)) (none seat) (put .lists .others seat here other) in
+      let first = gained-first x (mid .waiting seat) gains in
+      let some = first .0 in
+      let said = says ∙ draw-ok mid seat 0 (omega arith) (omega arith) in
+      let d : first-answer (m .seats) p seat ≡ Ok tt = rw (lt-ltb p (m .seats) h, lt-ltb seat (m .seats) here, ne-eqb seat p other) in
+      let got = draw-accepted mid after parts-of seat 0 lent filled r said left in
+      subst Ends (sym d) (said, got .1 ∙ getD-map parts-of (mid .waiting seat) 0 x lent some ∙ ap parts-of (first .1 x)))
+      (cases-eq seat p))
       (λ out.
-          let no-seat = draw-no-seat mid seat 0 (omega arith) in
-          let d : first-answer (m .seats) p seat ≡ Err (plain 8) = rw (lt-ltb p (m .seats) h, le-ltb seat (m .seats) out) in
-          subst Ends (sym d) (says ∙ no-seat, draw-refused mid after parts-of seat 0 lent filled r (plain 8) (says ∙ no-seat) left .1))
+      let no-seat = draw-no-seat mid seat 0 (omega arith) in
+      let d : first-answer (m .seats) p seat ≡ Err (plain 8) = rw (lt-ltb p (m .seats) h, le-ltb seat (m .seats) out) in
+      subst Ends (sym d) (says ∙ no-seat, draw-refused mid after parts-of seat 0 lent filled r (plain 8) (says ∙ no-seat) left .1))
       (cases-lt seat (m .seats))
 
   -- on a carrier with nothing waiting, a letter that is put is the first that another seat draws
   pub first-drawn : Passes (put-answer m (x .poster)) m x seat lent r after filled → Ends (first-answer (m .seats) (x .poster) seat)
   first-drawn passes = ⊎-elim
       (λ h.
-          let p = subst (λ a. Passes a m x seat lent r after filled) (put-ok m (x .poster) h (law .empty-fits none (x .poster) h)) passes in
-          drawn (p .0) h (p .1) (p .2) (p .3))
+      let p = subst (λ a. Passes a m x seat lent r after filled) (put-ok m (x .poster) h (law .empty-fits none (x .poster) h)) passes in
+      drawn (p .0) h (p .1) (p .2) (p .3))
       (λ out.
-          let refused : put-answer m (x .poster) ≡ Err (plain 8) = rw (le-ltb (x .poster) (m .seats) out) in
-          let p = subst (λ a. Passes a m x seat lent r after filled) refused passes in
-          let d : first-answer (m .seats) (x .poster) seat ≡ Err (plain 8) = rw (le-ltb (x .poster) (m .seats) out) in
-          subst Ends (sym d) (p .0, p .2))
+      let refused : put-answer m (x .poster) ≡ Err (plain 8) = rw (le-ltb (x .poster) (m .seats) out) in
+      let p = subst (λ a. Passes a m x seat lent r after filled) refused passes in
+      let d : first-answer (m .seats) (x .poster) seat ≡ Err (plain 8) = rw (le-ltb (x .poster) (m .seats) out) in
+      subst Ends (sym d) (p .0, p .2))
       (cases-lt (x .poster) (m .seats))

@@ -16,7 +16,7 @@ returns g c =
     let lent = parts (c .args .stamp .now) (c .args .poster .now) (c .args .body .now) in
     let ends = first-drawn (lines-of l) (lawful-lines l) (c .new-lines .ensures .empty) x seat lent _ _ _ (c .put-and-draw .ensures) in
     let same : first-answer (l .seats) (x .poster) seat ≡ delivery-answer seats (c .args .size) (length (c .args .places .now)) (x .poster) seat =
-        ap (λ n. first-answer n (x .poster) seat) (c .new-lines .ensures .seats) ∙ ap (λ a. and-then a (first-answer seats (x .poster) seat)) (c .in-Continue-check .ensures tt) in
+    ap (λ n. first-answer n (x .poster) seat) (c .new-lines .ensures .seats) ∙ ap (λ a. and-then a (first-answer seats (x .poster) seat)) (c .in-Continue-check .ensures tt) in
     record {
       answer = ends .0 ∙ same;
       filled = ends .1 ∙ ap (λ d. parts-by d (parts-of x) lent) same;
