@@ -5,7 +5,7 @@ use Prim.Native.Nat.{ℕ}
 use Rattle.letters.specs.declared.letter.Letter.{Letter}
 use Rattle.causality.specs.declared.docket.DocketState.{DocketState}
 use Rattle.causality.specs.declared.docket.DocketState.the-variants.{Clear, Out, Parked}
-use Rattle.causality.specs.Lists.{there}
+use Rattle.letters.specs.Lists.{there}
 use Rattle.causality.specs.History.{Event, History, posted, shown, posted-letters}
 use Rattle.causality.specs.Worlds.{Box, World, Opened, Same-waiting}
 use Rattle.causality.specs.Steps.{Refuses, Posts, Sends, Moves-docket, Takes, Shows, Step, refuses, posts, sends, parks, collects, takes, shows}

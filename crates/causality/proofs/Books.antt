@@ -9,7 +9,7 @@ use Rattle.letters.specs.declared.letter.Letter.{Letter}
 use Rattle.letters.specs.Letters.{entry-at, letter-name, number-of}
 use Rattle.letters.specs.Names.{Name, name}
 use Rattle.letters.specs.Order.{Covers, Covers-letter, Same-letter}
-use Rattle.causality.specs.Lists.{_∈_, here, there}
+use Rattle.letters.specs.Lists.{_∈_, here, there}
 use Rattle.causality.specs.Logs.{Stands}
 use Rattle.causality.specs.History.{History, posted, shown, posted-letters, Seen, Before}
 use Rattle.causality.specs.Worlds.{Box, World, Opened}

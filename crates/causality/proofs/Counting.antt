@@ -11,8 +11,8 @@ use Rattle.std.proofs.shelf.Lists.{length-map}
 use Rattle.letters.specs.declared.letter.Letter.{Letter}
 use Rattle.letters.specs.Letters.{number-of}
 use Rattle.letters.specs.Order.{Same-letter}
-use Rattle.causality.specs.Lists.{_∈_, here, there, Apart}
-use Rattle.causality.specs.Logs.{Once}
+use Rattle.letters.specs.Lists.{_∈_, here, there, Apart}
+use Rattle.letters.specs.Logs.{Once}
 use Rattle.causality.proofs.Lists.{in-none, in-cons, in-eq, in-kept, in-as, split, length-cut, apart-cut}
 
 -- a number stands in a list of numbers, or not

@@ -10,7 +10,7 @@ use Rattle.causality.specs.declared.docket.DocketState.{DocketState}
 use Rattle.causality.specs.declared.docket.DocketState.the-variants.{Clear, Out, Parked}
 use Rattle.letters.specs.Letters.{number-of}
 use Rattle.letters.specs.Order.{Same-letter}
-use Rattle.causality.specs.Lists.{_∈_}
+use Rattle.letters.specs.Lists.{_∈_}
 use Rattle.causality.specs.History.{Event, History, posted-letters}
 use Rattle.causality.specs.Worlds.{Box, World}
 use Rattle.causality.specs.Steps.{Posts, Sends, Moves-docket, Takes, Shows, Repeat, covered, among-held, Outcome, stray, repeat, held, Step, refuses, posts, sends, parks, collects, takes, shows}

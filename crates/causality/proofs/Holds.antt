@@ -9,8 +9,8 @@ use mathlib.Core.Logic.{_⊎_, inl, inr, ⊎-elim}
 use Rattle.letters.specs.declared.letter.Letter.{Letter}
 use Rattle.letters.specs.Letters.{number-of}
 use Rattle.letters.specs.Order.{Same-letter}
-use Rattle.causality.specs.Lists.{_∈_, there}
-use Rattle.causality.specs.Logs.{Once}
+use Rattle.letters.specs.Lists.{_∈_, there}
+use Rattle.letters.specs.Logs.{Once}
 use Rattle.causality.specs.History.{History, posted-letters}
 use Rattle.causality.specs.Worlds.{Box, World, Opened}
 use Rattle.causality.specs.Steps.{Posts, Sends, Takes, Shows, Stray, no-seat, own, past-quota, no-place, Repeat, covered, among-held, Outcome, stray, repeat, held}

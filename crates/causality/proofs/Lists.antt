@@ -6,7 +6,7 @@ use mathlib.Core.Path.{_≡_, refl, sym, ap, subst}
 use mathlib.Core.List.{List, [], _∷_, _++_}
 use mathlib.Core.Logic.{_⊎_, inl, inr, ⊎-elim}
 use lib.ListN.{length}
-use Rattle.causality.specs.Lists.{_∈_, here, there, Apart}
+use Rattle.letters.specs.Lists.{_∈_, here, there, Apart}
 
 -- a statement holds at every seat, if it holds at seat s and at every other
 pub by-seat : (s : ℕ) (P : ℕ → Type 0) → P s → ((t : ℕ) → ¬ (t ≡ s) → P t) → (t : ℕ) → P t

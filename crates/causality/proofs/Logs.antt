@@ -8,8 +8,9 @@ use Rattle.letters.specs.declared.letter.Letter.{Letter}
 use Rattle.letters.specs.Letters.{entry-at, number-of}
 use Rattle.letters.specs.Names.{name}
 use Rattle.letters.specs.Order.{Same-letter, Covers-letter}
-use Rattle.causality.specs.Lists.{_∈_, there}
-use Rattle.causality.specs.Logs.{Once, Stands}
+use Rattle.letters.specs.Lists.{_∈_, there}
+use Rattle.letters.specs.Logs.{Once}
+use Rattle.causality.specs.Logs.{Stands}
 use Rattle.causality.proofs.Lists.{in-eq, in-as, in-none, in-cons, in-left, in-middle, in-last-cases, split-last, apart-last}
 use Rattle.causality.proofs.Counting.{Numbered}
 

@@ -13,7 +13,7 @@ use Rattle.letters.specs.Order.{Ready}
 use Rattle.carriers.specs.Putting.{Gains}
 use Rattle.causality.specs.declared.docket.DocketState.{DocketState}
 use Rattle.causality.specs.declared.docket.DocketState.the-variants.{Clear, Out, Parked}
-use Rattle.causality.specs.Lists.{_∈_}
+use Rattle.letters.specs.Lists.{_∈_}
 use Rattle.causality.specs.Worlds.{Box, World}
 use Rattle.causality.specs.Steps.{Moves-docket, Of-docket, Outcome, Posts, Sends, Parks, Collects, Takes, Shows, Refuses}
 

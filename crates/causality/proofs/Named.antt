@@ -3,7 +3,7 @@ use mathlib.Core.Path.{_≡_, refl, sym, ap, subst, _∙_}
 use mathlib.Core.List.{List, [], _∷_}
 use mathlib.Core.Logic.{inl, inr}
 use Prim.Native.Nat.{ℕ}
-use Rattle.causality.specs.Lists.{_∈_, here, there}
+use Rattle.letters.specs.Lists.{_∈_, here, there}
 use Rattle.causality.specs.History.{History, posted, shown, posted-letters, Seen, Before, Led-to, direct, through, told}
 
 module _ {A L : Type 0} (f : A → L) where

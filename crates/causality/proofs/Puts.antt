@@ -8,7 +8,7 @@ use Rattle.std.specs.Slices.{Shuffled}
 use Rattle.std.specs.shelf.Lists.{All}
 use Rattle.std.proofs.shelf.Sorted.{all-shuffled, shuffled-sym}
 use Rattle.carriers.specs.Putting.{Gains}
-use Rattle.causality.specs.Lists.{_∈_, here, there}
+use Rattle.letters.specs.Lists.{_∈_, here, there}
 use Rattle.causality.proofs.Lists.{in-none, in-either, in-right}
 
 module _ {A : Type 0} where

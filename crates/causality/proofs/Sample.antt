@@ -12,7 +12,7 @@ use Rattle.letters.specs.Letters.{Parts, entry-at, number-of, parts-of}
 use Rattle.letters.specs.Order.{Ready}
 use Rattle.letters.proofs.Same.{same-letter}
 use Rattle.causality.specs.declared.docket.DocketState.the-variants.{Clear, Out, Parked}
-use Rattle.causality.specs.Lists.{_∈_, here, there}
+use Rattle.letters.specs.Lists.{_∈_, here, there}
 use Rattle.causality.specs.History.{History, posted, shown, direct}
 use Rattle.causality.specs.Worlds.{Box, World}
 use Rattle.causality.specs.Steps.{Of-docket, Stray, no-seat, own, past-quota, no-place, Repeat, covered, among-held, held, repeat, refuses, posts, sends, parks, collects, takes, shows}

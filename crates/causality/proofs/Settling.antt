@@ -9,7 +9,7 @@ use Rattle.letters.specs.declared.letter.Letter.{Letter}
 use Rattle.letters.specs.Letters.{entry-at, number-of}
 use Rattle.letters.specs.Names.{Name, name}
 use Rattle.letters.specs.Order.{Ready}
-use Rattle.causality.specs.Lists.{_∈_, here, there}
+use Rattle.letters.specs.Lists.{_∈_, here, there}
 use Rattle.causality.specs.Logs.{Stands}
 use Rattle.causality.specs.History.{History, posted, shown, posted-letters}
 use Rattle.causality.specs.Worlds.{World}

@@ -5,7 +5,7 @@ use mathlib.Core.Path.{_≡_, refl, sym, ap, subst}
 use mathlib.Core.List.{[], _∷_, _++_}
 use mathlib.Core.Logic.{_⊎_, inl, inr}
 use Rattle.letters.specs.declared.letter.Letter.{Letter}
-use Rattle.causality.specs.Lists.{_∈_}
+use Rattle.letters.specs.Lists.{_∈_}
 use Rattle.causality.specs.History.{History, Seen}
 use Rattle.causality.specs.Worlds.{Box, World, Elsewhere}
 use Rattle.causality.specs.Steps.{Posts, Shows}

@@ -8,8 +8,9 @@ use Rattle.letters.specs.declared.letter.Letter.{Letter}
 use Rattle.letters.specs.Letters.{entry-at, number-of, letter-name}
 use Rattle.letters.specs.Names.{Name, name}
 use Rattle.letters.specs.Order.{Covers, Covers-letter, Same-letter}
-use Rattle.causality.specs.Lists.{_∈_, here, there}
-use Rattle.causality.specs.Logs.{Once, Onward, Stands}
+use Rattle.letters.specs.Lists.{_∈_, here, there}
+use Rattle.letters.specs.Logs.{Once, Ordered}
+use Rattle.causality.specs.Logs.{Stands}
 use Rattle.causality.specs.History.{History, posted-letters, Before, Led-to, direct, through, told}
 use Rattle.causality.specs.Worlds.{World}
 use Rattle.causality.specs.Theorems.{In-order, Genuine, All-genuine, Causal-order, Complete-delivery, Enough-places, Order-for-sheets, Stamps-mean-led-to}
@@ -141,7 +142,7 @@ module _ {B : Type 0} (N Q : ℕ) (w : World B) (h : History (Letter B)) (ok : A
 -- A log's letters cover no later one.
 module _ {B : Type 0} where
   no-later : (l : List (Letter B)) → Once l
-      → ((a b : List (Letter B)) (m k : Letter B) → l ≡ a ++ (m ∷ b) → k ∈ l → Covers-letter m k → (k ∈ a) ⊎ (k ≡ m)) → Onward l
+      → ((a b : List (Letter B)) (m k : Letter B) → l ≡ a ++ (m ∷ b) → k ∈ l → Covers-letter m k → (k ∈ a) ⊎ (k ≡ m)) → Ordered l
   no-later [] once above = tt
   no-later (m ∷ l) once above = (
     λ k i c. first k i (above [] l m k refl (there i) c),
@@ -160,7 +161,7 @@ module _ {B : Type 0} where
       rest a x k i (inl (there j)) = inl j
       rest a x k i (inr e) = inr e
 
-  onward : (ls : List (Letter B)) (c : ℕ → ℕ) (l : List (Letter B)) → Log-ok ls c l → Onward l
+  onward : (ls : List (Letter B)) (c : ℕ → ℕ) (l : List (Letter B)) → Log-ok ls c l → Ordered l
   onward ls c l ok = no-later l (ok .once) (λ a b m k e i cov. ok .above a b m k e (ok .known k i) cov)
 
 pub causal-order : {B : Type 0} → Causal-order B
@@ -193,8 +194,8 @@ order-for-sheets = record {
       record {
         once = apart-front Same-letter a a′ (subst Once e (log .once));
         once′ = apart-front Same-letter b b′ (subst Once f (log′ .once));
-        onward = apart-front Covers-letter a a′ (subst Onward e (onward (posted-letters h) (w .box s .clock) (w .box s .log) log));
-        onward′ = apart-front Covers-letter b b′ (subst Onward f (onward (posted-letters h) (w .box t .clock) (w .box t .log) log′));
+        onward = apart-front Covers-letter a a′ (subst Ordered e (onward (posted-letters h) (w .box s .clock) (w .box s .log) log));
+        onward′ = apart-front Covers-letter b b′ (subst Ordered f (onward (posted-letters h) (w .box t .clock) (w .box t .log) log′));
         equal = λ m k i j same. books .ids .unique m k (log .known m (in-eq (sym e) (in-left a′ i))) (log′ .known k (in-eq (sym f) (in-left b′ j))) same;
       };
 }

@@ -4,18 +4,11 @@ use mathlib.Core.List.{List}
 use Rattle.letters.specs.declared.letter.Letter.{Letter}
 use Rattle.letters.specs.Letters.{letter-name}
 use Rattle.letters.specs.Names.{Name}
-use Rattle.letters.specs.Order.{Covers-letter, Same-letter}
-use Rattle.causality.specs.Lists.{_∈_, Apart}
+use Rattle.letters.specs.Order.{Same-letter}
+use Rattle.letters.specs.Lists.{_∈_}
+use Rattle.letters.specs.Logs.{Once, Ordered}
 
 module _ {B : Type 0} where
-  -- no letter stands twice
-  abbrev pub Once : List (Letter B) → Type 0
-  Once = Apart Same-letter
-
-  -- no letter covers a later one
-  abbrev pub Onward : List (Letter B) → Type 0
-  Onward = Apart Covers-letter
-
   -- the letter of this name stands in the list
   pub record Stands (i : Name) (l : List (Letter B)) : Type 0 where
     pub letter : Letter B
@@ -27,6 +20,6 @@ module _ {B : Type 0} where
   pub record For-sheets (l l′ : List (Letter B)) : Type 0 where
     pub once : Once l
     pub once′ : Once l′
-    pub onward : Onward l
-    pub onward′ : Onward l′
+    pub onward : Ordered l
+    pub onward′ : Ordered l′
     pub equal : (m k : Letter B) → m ∈ l → k ∈ l′ → Same-letter m k → m ≡ k

@@ -10,7 +10,7 @@ use Rattle.letters.specs.Order.{Ready, Same-letter}
 use Rattle.carriers.specs.Putting.{Put}
 use Rattle.causality.specs.declared.docket.DocketState.{DocketState}
 use Rattle.causality.specs.declared.docket.DocketState.the-variants.{Clear, Out, Parked}
-use Rattle.causality.specs.Lists.{_∈_}
+use Rattle.letters.specs.Lists.{_∈_}
 use Rattle.causality.specs.History.{Event, posted, shown}
 use Rattle.causality.specs.Worlds.{Box, World, Elsewhere, Same-waiting}
 

@@ -11,8 +11,9 @@ use Rattle.letters.specs.Letters.{letter-name, number-of}
 use Rattle.letters.specs.Names.{Name, name}
 use Rattle.letters.specs.Order.{Covers, Covers-letter, Ready, Same-letter, covers, same-letter}
 use Rattle.causality.specs.declared.docket.DocketState.the-variants.{Clear}
-use Rattle.causality.specs.Lists.{_∈_}
-use Rattle.causality.specs.Logs.{Once, Stands, For-sheets}
+use Rattle.letters.specs.Lists.{_∈_}
+use Rattle.letters.specs.Logs.{Once}
+use Rattle.causality.specs.Logs.{Stands, For-sheets}
 use Rattle.causality.specs.History.{History, posted, posted-letters, Seen, Led-to, told}
 use Rattle.causality.specs.Worlds.{Box, World}
 use Rattle.causality.specs.Steps.{Stray}

@@ -6,7 +6,7 @@ use Prim.Native.Nat.{ℕ, suc, _+_, _≤_, _<_}
 use native.Mathlib.Omega.{arith}
 use lib.ListN.{length}
 use Rattle.std.specs.Iters.{folded}
-use Rattle.sheets.specs.Lists.{Apart, Same-elements, _∈_, here, there}
+use Rattle.letters.specs.Lists.{Apart, Same-elements, _∈_, here, there}
 
 -- zs is ys with one x taken out
 data Without {L : Type 0} (x : L) : List L → List L → Type 0 where

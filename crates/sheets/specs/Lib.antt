@@ -1,5 +1,3 @@
-pub mod Lists
-pub mod Logs
 pub mod Pages
 pub mod Sheets
 pub mod Placing

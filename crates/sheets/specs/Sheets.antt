@@ -11,8 +11,8 @@ use Rattle.std.specs.declared.result.Result.the-variants.{Ok, Err}
 use Rattle.letters.specs.declared.letter.Letter.{Letter}
 use Rattle.letters.specs.Order.{Side-by-side}
 use Rattle.letters.specs.Refusals.{Reason, unless}
-use Rattle.sheets.specs.Lists.{Same-elements}
-use Rattle.sheets.specs.Logs.{Once, Ordered}
+use Rattle.letters.specs.Lists.{Same-elements}
+use Rattle.letters.specs.Logs.{Once, Ordered}
 
 -- what a caller is told of an outcome: a yes, or the reason of the no
 abbrev pub answered : {M : Type 0} → Result M Reason → Result (Unit {0}) Reason

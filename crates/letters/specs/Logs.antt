@@ -1,8 +1,8 @@
 -- Lists of letters, as boxes keep them in their logs.
 use mathlib.Core.List.{List}
 use Rattle.letters.specs.declared.letter.Letter.{Letter}
+use Rattle.letters.specs.Lists.{Apart}
 use Rattle.letters.specs.Order.{Covers-letter, Same-letter}
-use Rattle.sheets.specs.Lists.{Apart}
 
 module _ {B : Type 0} where
   -- no letter stands twice in the list
