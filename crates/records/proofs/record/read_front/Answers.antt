@@ -7,7 +7,7 @@ use Rattle.letters.specs.Letters.{parts}
 use Rattle.records.specs.Reading.{Left-by, read-answer}
 use Rattle.records.specs.Records.{record-size, wrong-front}
 use Rattle.records.proofs.RoundTrip.{front-short, front-whole, left-exact, read-undoes}
-use Rattle.records.proofs.record.read_record.Needs as need
+use Rattle.records.proofs.record.read_front.Needs as need
 
 pub returns-then-bytes-lt-RECORD-SIZE : need.returns-then-bytes-lt-RECORD-SIZE
 returns-then-bytes-lt-RECORD-SIZE g c =

@@ -15,7 +15,7 @@ use Rattle.records.specs.Readers.{ahead, next-answer, next-index, next-parts}
 use Rattle.records.specs.Records.{record-size, wrong-front}
 use Rattle.records.proofs.Finding.{found-end, found-right, found-wrong, next-part, undoes-none}
 use Rattle.records.proofs.RoundTrip.{undoes-as}
-use Rattle.records.proofs.reader.Reader.next.Needs as need
+use Rattle.records.proofs.reader.Reader.read_next.Needs as need
 
 -- a read that was refused was not accepted
 refused : {X : Type 0} (byte : ℕ) → _≡_ {A = Result (Unit {0}) ℕ} (Err byte) (Ok tt) → X
