@@ -74,6 +74,12 @@ module _ {B : Type 0} (form : Form B) where
   Load-undoes bs old new answer =
       (ms : List (Letter B)) → bs ≡ file-of ms → length ms ≤ length old → (answer ≡ Ok (length ms)) × (new ≡ ms ++ drop (length ms) old)
 
+  -- what loading a file does: its answer, the table that it leaves, and that it undoes saving
+  pub record File-loaded (bs : List ℕ) (old new : List (Letter B)) (r : Result ℕ LoadRefusal) : Type 0 where
+    pub answer : told-load r ≡ load-answer bs (length old)
+    pub table : Loaded bs old new (told-load r)
+    pub undoes : Load-undoes bs old new (told-load r)
+
   -- what saving leaves in the buffer: the file at its front
   abbrev pub saved : List (Letter B) → List ℕ → List ℕ
   saved ms old = cond (leb (record-size * length ms) (length old)) (file-of ms ++ drop (record-size * length ms) old) old

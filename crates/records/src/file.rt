@@ -6,7 +6,7 @@ ghost use lib.ListN.{drop, length, set};
 ghost use Rattle.std.specs.declared.option.Option.the-variants.{None};
 ghost use Rattle.std.specs.declared.result.Result.the-variants.{Ok};
 ghost use Rattle.letters.specs.Refusals.{told};
-ghost use Rattle.records.specs.Files.{Load-undoes, Loaded, file-fault, file-of, load-answer, save-answer, saved, told-load};
+ghost use Rattle.records.specs.Files.{File-loaded, Loaded, file-fault, file-of, save-answer, saved};
 use crate::bytes::put;
 use crate::fault::Fault;
 use crate::load_refusal::LoadRefusal;
@@ -63,9 +63,13 @@ fn fill_table<B: Body>(bytes: &[u8], table: &mut [Letter<B>], count: usize)
 // Reads a whole file into the front of a table and answers how many letters there were.
 // It looks first: on a no, the table is as it was.
 pub fn load<B: Body>(bytes: &[u8], table: &mut [Letter<B>]) -> Result<usize, LoadRefusal>
-    ensures answer { λ r. ⌜ told-load r ≡ load-answer form (now (bytes .entry)) (length (now (table .entry))) ⌝ }
-    ensures table { λ r. ⌜ Loaded form (now (bytes .entry)) (now (table .entry)) (now (table .exit)) (told-load r) ⌝ }
-    ensures undoes { λ r. ⌜ Load-undoes form (now (bytes .entry)) (now (table .entry)) (now (table .exit)) (told-load r) ⌝ }
+    ensures { λ r. ⌜ File-loaded form (now (bytes .entry)) (now (table .entry)) (now (table .exit)) r ⌝ }
+{
+    look_and_fill(bytes, table)
+}
+
+fn look_and_fill<B: Body>(bytes: &[u8], table: &mut [Letter<B>]) -> Result<usize, LoadRefusal>
+    ensures { λ r. ⌜ File-loaded form (now (bytes .entry)) (now (table .entry)) (now (table .exit)) r ⌝ }
 {
     if let Some(fault) = first_fault::<B>(bytes) {
         return Err(LoadRefusal::Bad(fault));

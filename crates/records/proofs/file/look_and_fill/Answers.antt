@@ -9,7 +9,7 @@ use Rattle.std.proofs.shelf.Tests.{le-leb, lt-leb}
 use Rattle.records.specs.Files.{file-fault, load-answer, load-check}
 use Rattle.records.specs.Records.{record-size}
 use Rattle.records.proofs.Loading.{load-undoes}
-use Rattle.records.proofs.file.load.Needs as need
+use Rattle.records.proofs.file.look_and_fill.Needs as need
 
 pub returns-in-Some : need.returns-in-Some
 returns-in-Some g c =
