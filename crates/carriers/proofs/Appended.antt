@@ -6,7 +6,7 @@ use lib.Dec.{ltb}
 use Rattle.std.proofs.shelf.Tests.{and-from, and-right, cond-false, cond-true, eq-eqb, lt-ltb, ne-eqb}
 use Rattle.carriers.specs.Putting.{Gains}
 use Rattle.carriers.specs.Meaning.{Meaning, Put-on}
-use Rattle.carriers.specs.Lines.{appended}
+use Rattle.carriers.specs.Appending.{appended}
 use Rattle.carriers.proofs.Gained.{gains-end}
 
 pub put-appended : {L : Type 0} (m after : Meaning L) (poster : ℕ) (x : L) → after .seats ≡ m .seats → ((k : ℕ) → after .waiting k ≡ appended m poster x k) → Put-on m poster x after

@@ -12,7 +12,8 @@ use Rattle.std.proofs.shelf.Tests.{cases-eq, cases-lt, cond-true, cond-false, a
 use Rattle.letters.specs.declared.letter.Letter.{Letter}
 use Rattle.carriers.specs.declared.lines.Lines.{Lines}
 use Rattle.carriers.specs.Meaning.{Put-on}
-use Rattle.carriers.specs.Lines.{lines-of, appended}
+use Rattle.carriers.specs.Appending.{appended}
+use Rattle.carriers.specs.Lines.{lines-of}
 use Rattle.carriers.proofs.Appended.{put-appended}
 
 module _ {B : Type 0} (old : Lines B) (x : Letter B) where

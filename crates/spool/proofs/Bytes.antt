@@ -5,7 +5,7 @@ use Prim.Native.Nat.{ℕ, _+_, _-_, _*_, _/_, _%_, _<_, _≤_}
 use native.Mathlib.Omega.{arith}
 use lib.ListN.{length, getD, set, take, drop, length-drop, length-set}
 use Rattle.std.proofs.shelf.Lists.{getD-take, getD-drop, take-take, length-take-le, ext-getD, take-set-le, drop-set-lt, drop-set-add, getD-set-same, getD-set-other, drop-drop}
-use Rattle.carriers.specs.Lines.{Only-at}
+use Rattle.carriers.specs.Places.{Only-at}
 use Rattle.carriers.proofs.Rows.{other-queue}
 use Rattle.spool.specs.Rows.{mask-of, record-part, row-at}
 

@@ -13,7 +13,7 @@ use lib.ListN.{length, getD, take}
 use Rattle.std.specs.Holes.{removed}
 use Rattle.std.proofs.shelf.Bits.{pow-pos, pow-below}
 use Rattle.std.proofs.shelf.Tests.{cases-eq, cases-lt, and-from, and-left, and-right, cond-false, eq-eqb, ne-eqb, lt-ltb, le-ltb}
-use Rattle.carriers.specs.Lines.{appended}
+use Rattle.carriers.specs.Appending.{appended}
 use Rattle.carriers.specs.Meaning.{Drawn}
 use Rattle.spool.specs.Masks.{all-but, full, marked}
 use Rattle.spool.specs.Rows.{row-at, mask-of, picks, marks-at, letters-at, record-part}

@@ -6,7 +6,7 @@ ghost use lib.ListN.{length};
 ghost use Rattle.std.specs.declared.result.Result.the-variants.{Ok};
 ghost use Rattle.letters.specs.Letters.{parts, parts-of};
 ghost use Rattle.letters.specs.Refusals.{told};
-ghost use Rattle.carriers.specs.Lines.{Appends};
+ghost use Rattle.carriers.specs.Appending.{Appends};
 ghost use Rattle.carriers.specs.Meaning.{Draw-leaves, Drawn, Empty, Kept, Put-leaves, draw-answer, put-answer};
 ghost use Rattle.spool.specs.Decoding.{letter-of};
 ghost use Rattle.spool.specs.Rows.{letters-at, marks-at, picks, spool-answer};
@@ -44,6 +44,7 @@ impl<'a, B: Stored> Spool<'a, B> {
         requires { ⌜ spool-answer seats (length (now buffer)) ≡ Ok tt ⌝ }
         ensures seats { λ r. ⌜ r .seats ≡ seats ⌝ }
         ensures empty { λ r. ⌜ Empty (spool-of (B·Body .form) blank r) ⌝ }
+        ensures buffer { λ r. ⌜ r .tape .bytes .now ≡ now (buffer .entry) ⌝ }
     {
         Spool {
             tape: Tape { bytes: buffer },
