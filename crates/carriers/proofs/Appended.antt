@@ -1,7 +1,7 @@
 -- One copy more at the end of each other seat's list is a put.
 use mathlib.Core.Path.{_≡_, refl, sym, ap, subst, _∙_}
 use mathlib.Core.Bool.{not}
-use Prim.Native.Nat.{ℕ, _<_}
+use Prim.Native.Nat.{ℕ}
 use lib.Dec.{ltb}
 use Rattle.std.proofs.shelf.Tests.{and-from, and-right, cond-false, cond-true, eq-eqb, lt-ltb, ne-eqb}
 use Rattle.carriers.specs.Putting.{Gains}

@@ -1,12 +1,12 @@
 -- Queues side by side in one row of places.
-use mathlib.Core.Path.{_≡_, refl, sym, ap, _∙_}
-use mathlib.Core.List.{List, [], _∷_, _++_}
-use Prim.Native.Nat.{ℕ, suc, _+_, _-_, _*_, _<_, _≤_, min}
+use mathlib.Core.Path.{_≡_, sym, ap, _∙_}
+use mathlib.Core.List.{List}
+use Prim.Native.Nat.{ℕ, _+_, _-_, _*_, _≤_}
 use mathlib.Core.Logic.{⊎-elim}
 use native.Mathlib.Omega.{arith}
 use Rattle.std.proofs.shelf.Tests.{cases-order}
 use borrow.Rule.Slice.PartMut.{putMid}
-use lib.ListN.{length, getD, set, take, drop, length-drop, length-take}
+use lib.ListN.{length, take, drop}
 use Rattle.std.proofs.shelf.Lists.{take-take, drop-take, drop-at, take-append-le, drop-drop, length-take-le}
 use Rattle.std.proofs.shelf.Parts.{take-putMid-below, drop-putMid}
 use Rattle.carriers.specs.Places.{Only-at, part-at}
