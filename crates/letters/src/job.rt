@@ -1,8 +1,10 @@
 // Jobs as bodies of letters.
 ghost use mathlib.Core.Path.{_≡_};
 ghost use mathlib.Core.List.{_∷_};
+ghost use lib.ListN.{length};
+ghost use Rattle.std.specs.declared.option.Option.the-variants.{None};
 ghost use Rattle.letters.specs.Forms.{body-space};
-ghost use Rattle.letters.specs.Jobs.{job-bytes, job-form, said, strike-answer, strike-wrong};
+ghost use Rattle.letters.specs.Jobs.{add-wrong, job-bytes, job-form, said, strike-answer, strike-wrong};
 ghost use Rattle.letters.specs.Numbers.{bytes-of-16, padded};
 ghost use Rattle.letters.specs.Refusals.{told};
 use crate::body::BODY_SPACE;
@@ -67,6 +69,32 @@ fn wrong_name(poster: u8, number: u16) -> Option<u8>
     None
 }
 
+// The addition that five bytes write.
+fn read_add(bytes: &[u8]) -> Job
+    requires size { ⌜ length (now bytes) ≡ 5 ⌝ }
+    requires right { ⌜ add-wrong (now bytes) ≡ None ⌝ }
+    ensures { λ r. ⌜ job-bytes r ≡ now (bytes .entry) ⌝ }
+{
+    match bytes {
+        [_, a, b, c, d] => Job::Add(u32::from_le_bytes([*a, *b, *c, *d])),
+        _ => unreachable(),
+    }
+}
+
+// The strike that four bytes write.
+fn read_strike(bytes: &[u8]) -> Job
+    requires size { ⌜ length (now bytes) ≡ 4 ⌝ }
+    requires right { ⌜ strike-wrong (now bytes) ≡ None ⌝ }
+    ensures { λ r. ⌜ job-bytes r ≡ now (bytes .entry) ⌝ }
+{
+    match bytes {
+        [_, poster, low, high] => {
+            Job::Strike(LetterId::of(*poster, u16::from_le_bytes([*low, *high])))
+        }
+        _ => unreachable(),
+    }
+}
+
 pub impl Body for Job as JobBody {
     ghost form = { job-form };
 
@@ -87,12 +115,10 @@ pub impl Body for Job as JobBody {
     }
 
     fn read(_kind: u8, bytes: &[u8]) -> Job {
-        match bytes {
-            [_, a, b, c, d] => Job::Add(u32::from_le_bytes([*a, *b, *c, *d])),
-            [_, poster, low, high] => {
-                Job::Strike(LetterId::of(*poster, u16::from_le_bytes([*low, *high])))
-            }
-            _ => unreachable(),
+        if bytes.len() == 5 {
+            read_add(bytes)
+        } else {
+            read_strike(bytes)
         }
     }
 

@@ -1,6 +1,6 @@
 // Whole files of letters: into a table and back.
 ghost use mathlib.Core.Path.{_≡_};
-ghost use Prim.Native.Nat.{_*_, _<_, _≤_};
+ghost use Prim.Native.Nat.{_*_, _/_, _<_, _≤_};
 ghost use mathlib.Core.List.{_++_};
 ghost use lib.ListN.{drop, length, set};
 ghost use Rattle.std.specs.declared.option.Option.the-variants.{None};
@@ -18,8 +18,15 @@ use letters::body::Body;
 use letters::letter::Letter;
 use letters::refusal::Refusal;
 
-// The first fault of a file.
+// The first fault of a file. One without fault is a whole number of records.
 fn first_fault<B: Body>(bytes: &[u8]) -> Option<Fault>
+    ensures fault { λ r. ⌜ r ≡ file-fault form (now (bytes .entry)) ⌝ }
+    ensures whole { λ r. ⌜ (r ≡ None → 96 * (length (now (bytes .entry)) / 96) ≡ length (now (bytes .entry))) ⌝ }
+{
+    scan_faults::<B>(bytes)
+}
+
+fn scan_faults<B: Body>(bytes: &[u8]) -> Option<Fault>
     ensures { λ r. ⌜ r ≡ file-fault form (now (bytes .entry)) ⌝ }
 {
     let begun = bytes.len().div_ceil(RECORD_SIZE);

@@ -1,7 +1,7 @@
 // Making letters, and reading their parts.
 ghost use mathlib.Core.Path.{_≡_};
 ghost use Rattle.std.specs.declared.result.Result.the-variants.{Ok};
-ghost use Rattle.letters.specs.Letters.{letter-answer, letter-check, letter-name, number-of, parts, parts-of};
+ghost use Rattle.letters.specs.Letters.{entry-at, letter-answer, letter-check, letter-name, number-of, parts, parts-of};
 ghost use Rattle.letters.specs.Names.{name-of};
 ghost use Rattle.letters.specs.Refusals.{told};
 use crate::letter::Letter;
@@ -10,6 +10,16 @@ use crate::refusal::Refusal;
 use crate::stamp::Stamp;
 
 impl Stamp {
+    // The entry for a seat; past the sixteen it is 0.
+    pub fn entry(&self, seat: u8) -> u16
+        ensures { λ r. ⌜ r ≡ entry-at (now (self .entry)) seat ⌝ }
+    {
+        if seat >= 16 {
+            return 0;
+        }
+        self.entries[seat as usize]
+    }
+
     // Whether a letter of this poster can have the stamp; 20 where the poster is no seat or its entry is 0.
     pub fn check_poster(&self, poster: u8) -> Result<(), Refusal>
         ensures { λ r. ⌜ told (λ u. u) r ≡ letter-check (now (self .entry)) poster ⌝ }

@@ -6,6 +6,7 @@ ghost use lib.ListN.{drop, length};
 ghost use Rattle.std.specs.declared.option.Option.the-variants.{None};
 ghost use Rattle.letters.specs.Characters.{longest-text, printable, text-wrong};
 ghost use Rattle.letters.specs.Checks.{first-failing};
+ghost use Rattle.letters.specs.Numbers.{padded};
 ghost use Rattle.letters.specs.Refusals.{told};
 ghost use Rattle.letters.specs.Texts.{text-answer, text-bytes, text-form};
 use crate::body::BODY_SPACE;
@@ -36,6 +37,13 @@ impl Text {
             chars,
             len: bytes.len() as u8,
         }
+    }
+
+    // The characters, and zeros after them.
+    fn padded_chars(&self) -> [u8; LONGEST_TEXT]
+        ensures { λ r. ⌜ r ≡ padded longest-text (text-bytes (now (self .entry))) ⌝ }
+    {
+        self.chars
     }
 
     // The characters.
@@ -106,6 +114,6 @@ pub impl Body for Text as TextBody {
     }
 
     fn to_bytes(&self) -> [u8; BODY_SPACE] {
-        self.chars
+        self.padded_chars()
     }
 }

@@ -8,7 +8,7 @@ use Rattle.std.specs.declared.option.Option.the-variants.{None}
 use Rattle.std.proofs.shelf.Tests.{le-leb, lt-leb}
 use Rattle.records.specs.Files.{file-fault, load-answer, load-check}
 use Rattle.records.specs.Records.{record-size}
-use Rattle.records.proofs.Loading.{load-undoes, whole-file}
+use Rattle.records.proofs.Loading.{load-undoes}
 use Rattle.records.proofs.file.load.Needs as need
 
 pub returns-in-Some : need.returns-in-Some
@@ -16,7 +16,7 @@ returns-in-Some g c =
     let form = g .B·Body .form in
     let bs : List ℕ = c .args .bytes .now in
     let old = c .args .table .now in
-    let is = ap (λ f. load-check f (length bs / record-size) (length old)) (c .in-Some .ensures tt) in
+    let is = ap (λ f. load-check f (length bs / record-size) (length old)) (c .in-Some .ensures tt .fault) in
     record { answer = is; table = refl; undoes = load-undoes form (g .B·Body·met .lawful) bs old old _ is refl }
 
 pub returns-then-table-count : need.returns-then-table-count
@@ -24,18 +24,12 @@ returns-then-table-count g c =
     let form = g .B·Body .form in
     let bs : List ℕ = c .args .bytes .now in
     let old = c .args .table .now in
-    let right : file-fault form bs ≡ None = sym (c .in-rest .ensures tt) in
+    let right : file-fault form bs ≡ None = sym (c .in-rest .ensures tt .fault) in
     let few : leb (length bs / record-size) (length old) ≡ false = lt-leb (length bs / record-size) (length old) (c .if-table-count .taken) in
     let none : load-check None (length bs / record-size) (length old) ≡ load-answer form bs (length old) =
     ap (λ f. load-check f (length bs / record-size) (length old)) (sym right) in
     let is = sym (rw few) ∙ none in
     record { answer = is; table = refl; undoes = load-undoes form (g .B·Body·met .lawful) bs old old _ is refl }
-
-pub fill-table-requires : need.fill-table-requires
-fill-table-requires g c κs =
-    let form = g .B·Body .form in
-    let right = sym (c .in-rest .ensures tt) in
-    record { whole = whole-file form (g .B·Body·met .lawful) (c .args .bytes .now) right; places = c .if-table-count .left; right = right }
 
 pub returns : need.returns
 returns g c =
@@ -43,7 +37,7 @@ returns g c =
     let bs : List ℕ = c .args .bytes .now in
     let old = c .args .table .now in
     let new = c .fill-table .last .table in
-    let right : file-fault form bs ≡ None = sym (c .in-rest .ensures tt) in
+    let right : file-fault form bs ≡ None = sym (c .in-rest .ensures tt .fault) in
     let room : leb (length bs / record-size) (length old) ≡ true = le-leb (length bs / record-size) (length old) (c .if-table-count .left) in
     let none : load-check None (length bs / record-size) (length old) ≡ load-answer form bs (length old) =
     ap (λ f. load-check f (length bs / record-size) (length old)) (sym right) in

@@ -1,5 +1,5 @@
 use Rattle.letters.proofs.Texts.{text-padded}
-use Rattle.letters.proofs.text.reading.TextBody.to_bytes.Needs as need
+use Rattle.letters.proofs.text.Text.padded_chars.Needs as need
 
 pub returns : need.returns
 returns c = text-padded (c .args .self .now)
