@@ -224,8 +224,9 @@ def random_step(rng, seats):
     seat = rng.randrange(max(1, min(seats, 16)))
     if rng.randrange(25) == 0:
         seat = rng.choice([seats, 15, 16, 255])
-    # the last choice makes the letter's own number 0
-    number = rng.choice([rng.randrange(1, 300), rng.randrange(65536), (65536 - seat) % 65536])
+    number = rng.choice([rng.randrange(1, 300), rng.randrange(65536)])
+    if rng.randrange(25) == 0:
+        number = (65536 - seat) % 65536  # the letter's own number would be 0
     value = rng.randrange(2**32)
     if kind == 2:
         value = rng.choice([0, 0, 0, 1, 1, 2, 3, rng.randrange(12), CAP - 1, CAP])
