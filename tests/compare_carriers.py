@@ -171,36 +171,33 @@ def answers(carrier, steps):
             yield f"seats {carrier.seats}"
 
 
-def expected(setting, steps):
-    """All lines of a run."""
+def makes(setting):
+    """The three makes by name, each with the number of its refusal or else the carrier."""
     line_seats, spool_seats, letters, size, space = setting
     line_no = Lines.refusal(line_seats, size, letters)
     spool_no = Spool.refusal(spool_seats, space)
-    yield "lines"
-    if line_no is None:
-        yield from answers(Lines(line_seats, size), steps)
-    else:
-        yield f"refused {line_no}"
-    yield "spool"
-    if spool_no is None:
-        yield from answers(Spool(spool_seats, space), steps)
-    else:
-        yield f"refused {spool_no}"
-    yield "pair"
-    no = line_no if line_no is not None else spool_no
-    if no is None:
-        first, second = Lines(line_seats, size), Spool(spool_seats, space)
-        no = Pair.refusal(first, second)
-    if no is None:
-        yield from answers(Pair(first, second), steps)
-    else:
-        yield f"refused {no}"
+    yield "lines", line_no, None if line_no else Lines(line_seats, size)
+    yield "spool", spool_no, None if spool_no else Spool(spool_seats, space)
+    if line_no or spool_no:
+        yield "pair", line_no or spool_no, None
+        return
+    first, second = Lines(line_seats, size), Spool(spool_seats, space)
+    pair_no = Pair.refusal(first, second)
+    yield "pair", pair_no, None if pair_no else Pair(first, second)
 
 
-def made(lines):
-    """How many of the three carriers were made: under its name, one that was not has its refusal alone."""
-    blocks = "\n".join(lines).replace("spool\n", "lines\n").replace("pair\n", "lines\n").split("lines\n")[1:]
-    return sum(block.count("\n") > 1 for block in blocks)
+def expected(setting, steps):
+    """All lines of a run, and how many steps were taken."""
+    lines = []
+    taken = 0
+    for name, no, carrier in makes(setting):
+        lines.append(name)
+        if no:
+            lines.append(f"refused {no}")
+        else:
+            lines.extend(answers(carrier, steps))
+            taken += len(steps)
+    return lines, taken
 
 
 def random_setting(rng):
@@ -227,7 +224,9 @@ def random_step(rng, seats):
     seat = rng.randrange(max(1, min(seats, 16)))
     if rng.randrange(25) == 0:
         seat = rng.choice([seats, 15, 16, 255])
-    number = rng.choice([rng.randrange(1, 300), rng.randrange(65536), 65535 - seat % 16 + 1 & 65535])
+    number = rng.choice([rng.randrange(1, 300), rng.randrange(65536)])
+    if rng.randrange(25) == 0:
+        number = (65536 - seat) % 65536  # the letter's own number would be 0
     value = rng.randrange(2**32)
     if kind == 2:
         value = rng.choice([0, 0, 0, 1, 1, 2, 3, rng.randrange(12), CAP - 1, CAP])
@@ -250,9 +249,9 @@ def main():
     for index in range(RUNS):
         setting = random_setting(rng)
         steps = [random_step(rng, setting[0]) for _ in range(STEPS)]
-        want = list(expected(setting, steps))
+        want, taken = expected(setting, steps)
         got = run(sys.argv[1], setting, steps)
-        operations += made(want) * len(steps)
+        operations += taken
         if got == want:
             passed += 1
             continue

@@ -1,13 +1,12 @@
 -- A list that is closed up over one of its places, place by place.
-use mathlib.Core.Path.{_≡_, refl, sym, ap, _∙_}
-use mathlib.Core.List.{List, [], _∷_, _++_, append-assoc}
+use mathlib.Core.Path.{_≡_, sym, ap, _∙_}
+use mathlib.Core.List.{List, _++_}
 use Prim.Native.Nat.{ℕ, suc, _+_, _-_, _<_, _≤_}
 use native.Mathlib.Omega.{arith}
-use native.Mathlib.Numerals.{add-one}
-use lib.ListN.{length, getD, set, take, drop, length-drop, length-take}
+use lib.ListN.{length, getD, set, take, drop, length-drop}
 use lib.Seq.{paste, paste-zero, paste-suc, drop-paste, take-paste, getD-drop}
 use Rattle.std.specs.Holes.{removed}
-use Rattle.std.proofs.shelf.Lists.{take-take, drop-take, take-at, take-append-le}
+use Rattle.std.proofs.shelf.Lists.{take-take, drop-take}
 
 module _ {X : Type 0} (d : List X) (place : ℕ) where
   -- the places up to i have moved down by one

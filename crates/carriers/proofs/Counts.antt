@@ -1,16 +1,16 @@
 -- How many letters wait in each queue of lines, and what a step on one queue does to the others.
-use mathlib.Core.Path.{_≡_, refl, sym, ap, subst, _∙_}
-use mathlib.Core.Logic.{⊎-elim, inl, inr, _≢_}
-use mathlib.Core.Bool.{Bool, true, false, _&&_, _||_}
-use mathlib.Core.List.{List, [], _∷_, _++_}
-use Prim.Native.Nat.{ℕ, zero, suc, _+_, _-_, _*_, _^_, _<_, _≤_, min}
+use mathlib.Core.Path.{_≡_, sym, ap, subst, _∙_}
+use mathlib.Core.Logic.{⊎-elim, _≢_}
+use mathlib.Core.Bool.{true, false, _||_}
+use mathlib.Core.List.{List}
+use Prim.Native.Nat.{ℕ, zero, suc, _*_, _<_, _≤_}
 use native.Mathlib.Omega.{arith}
 use lib.Dec.{eqb, ltb}
-use lib.ListN.{length, getD, set, take, drop}
+use lib.ListN.{length, getD, set}
 use Rattle.std.proofs.shelf.Lists.{getD-set-same, getD-set-other, set-past}
-use Rattle.std.proofs.shelf.Tests.{cases-eq, cases-lt, lt-ltb, le-ltb, eq-eqb, ne-eqb, ltb-true, eqb-true, and-parts, and-from, and-left, and-right, or-cases, or-from, or-left, or-right}
-use Rattle.carriers.specs.Lines.{queue-at, Only-at, others-free, lines-meaning}
-use Rattle.carriers.specs.LineLaws.{free-more}
+use Rattle.std.proofs.shelf.Tests.{cases-eq, cases-lt, le-ltb, ne-eqb, ltb-true, eqb-true, and-parts, and-left, and-right, or-cases, or-from}
+use Rattle.carriers.specs.Places.{Only-at, part-at}
+use Rattle.carriers.specs.Lines.{others-free, lines-meaning}
 use Rattle.carriers.proofs.Rows.{other-queue}
 
 -- the counts after one is set
@@ -52,7 +52,7 @@ free-not counts size poster (suc n) k h ne full = ⊎-elim
 module _ {L : Type 0} (seats size : ℕ) (counts : List ℕ) (row row′ : List L) (at v : ℕ) (only : Only-at (at * size) size row row′) where
   pub other-waiting : (k : ℕ) → getD counts k 0 ≤ size → ¬ (k ≡ at) → lines-meaning seats size (set counts at v) row′ .waiting k ≡ lines-meaning seats size counts row .waiting k
   other-waiting k within ne =
-      ap (λ n. queue-at (k * size) n row′) (getD-set-other counts at k v 0 ne) ∙ other-queue size at k (getD counts k 0) row row′ only ne within
+      ap (λ n. part-at (k * size) n row′) (getD-set-other counts at k v 0 ne) ∙ other-queue size at k (getD counts k 0) row row′ only ne within
 
-  pub own-waiting : at < length counts → lines-meaning seats size (set counts at v) row′ .waiting at ≡ queue-at (at * size) v row′
-  own-waiting h = ap (λ n. queue-at (at * size) n row′) (getD-set-same counts at v 0 h)
+  pub own-waiting : at < length counts → lines-meaning seats size (set counts at v) row′ .waiting at ≡ part-at (at * size) v row′
+  own-waiting h = ap (λ n. part-at (at * size) n row′) (getD-set-same counts at v 0 h)

@@ -1,15 +1,15 @@
 -- Queues side by side in one row of places.
-use mathlib.Core.Path.{_≡_, refl, sym, ap, _∙_}
-use mathlib.Core.List.{List, [], _∷_, _++_}
-use Prim.Native.Nat.{ℕ, suc, _+_, _-_, _*_, _<_, _≤_, min}
+use mathlib.Core.Path.{_≡_, sym, ap, _∙_}
+use mathlib.Core.List.{List}
+use Prim.Native.Nat.{ℕ, _+_, _-_, _*_, _≤_}
 use mathlib.Core.Logic.{⊎-elim}
 use native.Mathlib.Omega.{arith}
 use Rattle.std.proofs.shelf.Tests.{cases-order}
 use borrow.Rule.Slice.PartMut.{putMid}
-use lib.ListN.{length, getD, set, take, drop, length-drop, length-take}
+use lib.ListN.{length, take, drop}
 use Rattle.std.proofs.shelf.Lists.{take-take, drop-take, drop-at, take-append-le, drop-drop, length-take-le}
 use Rattle.std.proofs.shelf.Parts.{take-putMid-below, drop-putMid}
-use Rattle.carriers.specs.Lines.{queue-at, Only-at}
+use Rattle.carriers.specs.Places.{Only-at, part-at}
 use Rattle.carriers.specs.LineLaws.{queue-end}
 
 module _ {X : Type 0} (start size : ℕ) (row : List X) (fits : start + size ≤ length row) where
@@ -24,16 +24,16 @@ module _ {X : Type 0} (start size : ℕ) (row : List X) (fits : start + size ≤
       drop-putMid start cut row part (start + size) (omega arith) (omega arith) long,
     )
 
-    pub queue-in-part : (n : ℕ) → n ≤ size → queue-at start n (putMid start cut row part) ≡ take n part
+    pub queue-in-part : (n : ℕ) → n ≤ size → part-at start n (putMid start cut row part) ≡ take n part
     queue-in-part n le =
         ap (take n) (drop-at (take start row) _ start (length-take-le start row (omega arith))) ∙ take-append-le n part _ (omega arith)
 
-  pub queue-of-part : (n : ℕ) → n ≤ size → take n (take cut (drop start row)) ≡ queue-at start n row
+  pub queue-of-part : (n : ℕ) → n ≤ size → take n (take cut (drop start row)) ≡ part-at start n row
   queue-of-part n le = take-take n cut (drop start row) (omega arith)
 
 module _ {X : Type 0} where
   -- the queues before and behind the one that was written are as they were
-  pub other-queue : (size at other n : ℕ) (before after : List X) → Only-at (at * size) size before after → (other ≡ at → ⊥) → n ≤ size → queue-at (other * size) n after ≡ queue-at (other * size) n before
+  pub other-queue : (size at other n : ℕ) (before after : List X) → Only-at (at * size) size before after → (other ≡ at → ⊥) → n ≤ size → part-at (other * size) n after ≡ part-at (other * size) n before
   other-queue size at other n before after only ne le = ⊎-elim
       (λ same. absurd (ne same))
       (⊎-elim

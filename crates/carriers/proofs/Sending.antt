@@ -6,13 +6,14 @@ use mathlib.Core.Logic.{⊎-elim}
 use Prim.Native.Nat.{ℕ, _+_, _<_, _≤_}
 use native.Mathlib.Omega.{arith}
 use lib.Dec.{ltb}
-use lib.ListN.{length, getD, set}
+use lib.ListN.{getD, set}
 use Rattle.std.proofs.shelf.Lists.{getD-set-other}
 use Rattle.std.proofs.shelf.Tests.{cases-eq, cases-lt, cond-true, cond-false, and-from, and-left, and-right, lt-ltb, le-ltb, eq-eqb, ne-eqb}
 use Rattle.letters.specs.declared.letter.Letter.{Letter}
 use Rattle.carriers.specs.declared.lines.Lines.{Lines}
 use Rattle.carriers.specs.Meaning.{Put-on}
-use Rattle.carriers.specs.Lines.{lines-of, appended}
+use Rattle.carriers.specs.Appending.{appended}
+use Rattle.carriers.specs.Lines.{lines-of}
 use Rattle.carriers.proofs.Appended.{put-appended}
 
 module _ {B : Type 0} (old : Lines B) (x : Letter B) where

@@ -12,14 +12,15 @@ use Rattle.std.proofs.shelf.Lists.{length-take-le}
 use Rattle.std.proofs.shelf.Tests.{cases-eq, lt-ltb, le-ltb, eq-eqb, and-from, and-left, or-left, or-right}
 use Rattle.carriers.specs.declared.lines.Lines.{Lines}
 use Rattle.carriers.specs.Meaning.{Lawful}
-use Rattle.carriers.specs.Lines.{queue-at, others-free, lines-of}
+use Rattle.carriers.specs.Places.{part-at}
+use Rattle.carriers.specs.Lines.{others-free, lines-of}
 
 -- a queue ends before a later one begins
 pub queue-end : (size at other : ℕ) → at < other → at * size + size ≤ other * size
 queue-end size at other h = let e = suc-mul at size in let le : suc at * size ≤ other * size = mul-le-mul-right size h in omega arith
 
 -- a queue is as long as its count says
-pub length-queue : {L : Type 0} (size seats at n : ℕ) (row : List L) → at < seats → n ≤ size → seats * size ≤ length row → length (queue-at (at * size) n row) ≡ n
+pub length-queue : {L : Type 0} (size seats at n : ℕ) (row : List L) → at < seats → n ≤ size → seats * size ≤ length row → length (part-at (at * size) n row) ≡ n
 length-queue size seats at n row h le fits =
     let d = length-drop (at * size) row in
     length-take-le n (drop (at * size) row) (omega (arith, queue-end size at seats h))

@@ -1,9 +1,9 @@
 -- What a carrier holds, and what its calls answer and leave. L is the type of the letters.
 use mathlib.Core.Path.{_≡_}
 use mathlib.Core.List.{List, [], map}
-use mathlib.Core.Bool.{Bool, true, false}
+use mathlib.Core.Bool.{Bool, true, false, _&&_}
 use Prim.Native.Nat.{ℕ, _-_, _^_, _<_, _≤_, min}
-use lib.Dec.{ltb}
+use lib.Dec.{ltb, leb}
 use lib.ListN.{length, getD}
 use Rattle.std.specs.Holes.{removed}
 use Rattle.std.specs.declared.result.Result.{Result}
@@ -16,6 +16,10 @@ pub record Meaning (L : Type 0) : Type 0 where
   pub seats : ℕ
   pub waiting : ℕ → List L
   pub fits : ℕ → Bool
+
+-- a carrier has 1 to 16 seats
+abbrev pub seats-right : ℕ → Bool
+seats-right seats = ltb 0 seats && leb seats 16
 
 module _ {L : Type 0} where
   -- nothing waits for anybody

@@ -4,7 +4,7 @@ ghost use mathlib.Core.List.{[], _∷_, _++_};
 ghost use Prim.Native.Nat.{_+_, _-_, _^_, _<_, _≤_};
 ghost use lib.ListN.{length, getD};
 ghost use Rattle.std.specs.Holes.{removed};
-ghost use Rattle.carriers.specs.Lines.{Only-at, queue-at};
+ghost use Rattle.carriers.specs.Places.{Only-at, part-at};
 use crate::queue::push_to;
 use crate::queue::remove_from;
 use letters::letter::Letter;
@@ -20,7 +20,7 @@ impl<'a, B: Copy> Rack<'a, B> {
         requires { ⌜ start + size ≤ length (now self .places .now) ⌝ ∗ ⌜ count < size ⌝ ∗ ⌜ count + 1 < 2 ^ 32 ⌝ }
         ensures long { λ _. ⌜ length (now (self .exit) .places .now) ≡ length (now (self .entry) .places .now) ⌝ }
         ensures only { λ _. ⌜ Only-at start size (now (self .entry) .places .now) (now (self .exit) .places .now) ⌝ }
-        ensures letters { λ _. ⌜ queue-at start (count + 1) (now (self .exit) .places .now) ≡ queue-at start count (now (self .entry) .places .now) ++ (now (letter .entry) ∷ []) ⌝ }
+        ensures letters { λ _. ⌜ part-at start (count + 1) (now (self .exit) .places .now) ≡ part-at start count (now (self .entry) .places .now) ++ (now (letter .entry) ∷ []) ⌝ }
     {
         push_to(&mut self.places[start..start + size], count, letter);
     }
@@ -30,8 +30,8 @@ impl<'a, B: Copy> Rack<'a, B> {
         requires { ⌜ start + size ≤ length (now self .places .now) ⌝ ∗ ⌜ place < count ⌝ ∗ ⌜ count ≤ size ⌝ }
         ensures long { λ _. ⌜ length (now (self .exit) .places .now) ≡ length (now (self .entry) .places .now) ⌝ }
         ensures only { λ _. ⌜ Only-at start size (now (self .entry) .places .now) (now (self .exit) .places .now) ⌝ }
-        ensures letters { λ _. ⌜ queue-at start (count - 1) (now (self .exit) .places .now) ≡ removed (queue-at start count (now (self .entry) .places .now)) place ⌝ }
-        ensures taken { λ r. ⌜ r ≡ getD (queue-at start count (now (self .entry) .places .now)) place r ⌝ }
+        ensures letters { λ _. ⌜ part-at start (count - 1) (now (self .exit) .places .now) ≡ removed (part-at start count (now (self .entry) .places .now)) place ⌝ }
+        ensures taken { λ r. ⌜ r ≡ getD (part-at start count (now (self .entry) .places .now)) place r ⌝ }
     {
         remove_from(&mut self.places[start..start + size], count, place)
     }

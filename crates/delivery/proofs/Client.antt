@@ -1,12 +1,10 @@
 -- What a carrier's contract tells its user.
 use mathlib.Core.Path.{_≡_, refl, sym, ap, subst, _∙_}
 use mathlib.Core.Logic.{⊎-elim}
-use mathlib.Core.Bool.{not}
-use mathlib.Core.List.{List, [], _∷_, _++_, map}
-use Prim.Native.Nat.{ℕ, zero, suc, _+_, _<_, _≤_}
+use mathlib.Core.List.{List, [], _++_}
+use Prim.Native.Nat.{ℕ, zero, suc, _<_}
 use native.Mathlib.Omega.{arith}
 use lib.ListN.{length, getD, replicate, length-append, length-replicate}
-use Rattle.std.specs.Slices.{Shuffled}
 use Rattle.std.specs.shelf.Lists.{All}
 use Rattle.std.proofs.shelf.Elements.{all-append, all-getD}
 use Rattle.std.proofs.shelf.Lists.{getD-map}
@@ -19,7 +17,7 @@ use Rattle.letters.specs.declared.refusal.Refusal.{Refusal}
 use Rattle.letters.specs.Letters.{Parts, parts-of}
 use Rattle.letters.specs.Refusals.{Reason, plain, told}
 use Rattle.carriers.specs.Putting.{Gains}
-use Rattle.carriers.specs.Meaning.{Draw-leaves, Empty, Lawful, Meaning, Put-on, draw-answer, put-answer, waits-at}
+use Rattle.carriers.specs.Meaning.{Draw-leaves, Empty, Lawful, Meaning, Put-on, draw-answer, put-answer}
 use Rattle.carriers.proofs.Decisions.{draw-accepted, draw-no-place, draw-no-seat, draw-ok, draw-refused, put-ok}
 use Rattle.delivery.specs.Passing.{Passes, first-answer, parts-by}
 

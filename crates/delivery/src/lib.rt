@@ -46,3 +46,67 @@ pub fn over_lines<B: Body>(
     let mut lines = Lines::new(places, seats, size);
     put_and_draw(&mut lines, letter, seat, stamp, poster, body)
 }
+
+#[cfg(test)]
+mod tests {
+    use crate::over_lines;
+    use letters::job::Job;
+    use letters::job::JobBody;
+    use letters::letter::Letter;
+    use letters::stamp::Stamp;
+    use letters::text::Text;
+    use letters::text::reading::TextBody;
+    use std::test::*;
+
+    #[test]
+    fn a_text_is_drawn() -> Result<(), Fail> {
+        let Ok(text) = Text::new(b"hello") else {
+            return Err(Fail::new("a text was refused"));
+        };
+        let Ok(blank) = Text::new(b"") else {
+            return Err(Fail::new("no text was refused"));
+        };
+        let mut stamp = Stamp { entries: [1; 16] };
+        let Ok(letter) = Letter::new(stamp, 0, text) else {
+            return Err(Fail::new("a letter was refused"));
+        };
+        let mut places = [letter; 6];
+        let mut poster = 9;
+        let mut body = blank;
+        check(over_lines(
+            &mut places,
+            3,
+            2,
+            &letter,
+            1,
+            &mut stamp,
+            &mut poster,
+            &mut body,
+        ).is_ok())?;
+        check_eq(poster, 0)?;
+        check(body.as_bytes() == b"hello")
+    }
+
+    #[test]
+    fn a_job_is_drawn() -> Result<(), Fail> {
+        let mut stamp = Stamp { entries: [1; 16] };
+        let Ok(letter) = Letter::new(stamp, 2, Job::Add(7)) else {
+            return Err(Fail::new("a letter was refused"));
+        };
+        let mut places = [letter; 6];
+        let mut poster = 9;
+        let mut body = Job::Add(0);
+        check(over_lines(
+            &mut places,
+            3,
+            2,
+            &letter,
+            1,
+            &mut stamp,
+            &mut poster,
+            &mut body,
+        ).is_ok())?;
+        check_eq(poster, 2)?;
+        check(matches!(body, Job::Add(7)))
+    }
+}

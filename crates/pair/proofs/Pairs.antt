@@ -1,18 +1,16 @@
 -- What the steps of a pair come to, by those of its two carriers.
 use mathlib.Core.Path.{_≡_, refl, sym, ap, subst, _∙_}
-use mathlib.Core.Logic.{_⊎_, inl, inr, ⊎-elim, _≢_}
-use mathlib.Core.Bool.{Bool, true, false, cond, _&&_}
-use mathlib.Core.List.{List, [], _∷_, _++_, map}
-use Prim.Native.Nat.{ℕ, suc, _+_, _-_, _^_, _<_, _≤_, min}
+use mathlib.Core.Logic.{⊎-elim}
+use mathlib.Core.Bool.{true}
+use mathlib.Core.List.{_++_, map}
+use Prim.Native.Nat.{ℕ, _+_, _-_, _^_, _<_, _≤_, min}
 use native.Mathlib.Omega.{arith}
-use lib.Dec.{ltb, eqb}
-use lib.ListN.{length, getD, take, drop, length-append}
+use lib.ListN.{length, getD, length-append}
 use Rattle.std.specs.Holes.{removed}
-use Rattle.std.proofs.shelf.Lists.{take-append-le, drop-append-le, append-assoc, getD-append-left, getD-append-right, map-append, length-map}
-use native.Mathlib.Nat.{zero-add, suc-add}
+use Rattle.std.proofs.shelf.Lists.{getD-append-left, getD-append-right, map-append, length-map}
 use Rattle.std.specs.declared.result.Result.{Result}
 use Rattle.std.specs.declared.result.Result.the-variants.{Ok, Err}
-use Rattle.std.proofs.shelf.Tests.{eqb-true, eq-eqb, lt-ltb, le-ltb, ltb-true, ltb-false, and-parts, and-left, and-from, cond-true, cases-bool, cases-lt}
+use Rattle.std.proofs.shelf.Tests.{eq-eqb, and-from, cases-lt}
 use Rattle.letters.specs.declared.refusal.Refusal.{Refusal}
 use Rattle.letters.specs.Refusals.{Reason, plain, told}
 use Rattle.carriers.specs.Meaning.{Meaning, Put-on, Drawn, waits-at, put-answer, Put-leaves, draw-answer, Draw-leaves}

@@ -1,17 +1,17 @@
 -- Single bits of a mask.
-use mathlib.Core.Path.{_≡_, refl, sym, ap, subst, _∙_}
-use mathlib.Core.Logic.{⊎-elim, inl, inr, _≢_}
+use mathlib.Core.Path.{_≡_, refl, sym, ap, _∙_}
+use mathlib.Core.Logic.{⊎-elim}
 use mathlib.Core.Bool.{Bool, true, false, _&&_}
 use mathlib.Core.List.{List, [], _∷_}
 use lib.ListN.{length, getD}
-use Prim.Native.Nat.{ℕ, zero, suc, _+_, _-_, _*_, _/_, _%_, _^_, _<_, _≤_}
+use Prim.Native.Nat.{ℕ, zero, suc, _+_, _-_, _*_, _/_, _%_, _^_, _<_}
 use native.Mathlib.Omega.{arith}
 use lib.Dec.{eqb}
-use lib.Bits.{bitXor, xor-shr, xor-mod, xor-lt, xor-zero-r}
+use lib.Bits.{bitXor, xor-shr, xor-mod, xor-zero-r}
 use lib.Count.{ones, ones-step}
 use native.Mathlib.Nat.{one-mul, add-mul, mul-mod-left, div-eq-of-lt, pow-suc}
 use Rattle.std.proofs.shelf.Bits.{pow-pos, shl-shr, pow-add, pow-below, div-mul-add}
-use Rattle.std.proofs.shelf.Tests.{cases-eq, cases-lt, eqb-true, eq-eqb, and-parts}
+use Rattle.std.proofs.shelf.Tests.{cases-lt, eqb-true, eq-eqb, and-parts}
 use Rattle.spool.specs.Masks.{full, marked}
 
 digit : ℕ → ℕ → ℕ

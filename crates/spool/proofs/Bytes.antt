@@ -1,11 +1,11 @@
 -- Rows of 98 bytes and their parts.
-use mathlib.Core.Path.{_≡_, refl, sym, ap, _∙_}
-use mathlib.Core.List.{List, [], _∷_, _++_}
-use Prim.Native.Nat.{ℕ, _+_, _-_, _*_, _/_, _%_, _<_, _≤_}
+use mathlib.Core.Path.{_≡_, sym, ap, _∙_}
+use mathlib.Core.List.{List}
+use Prim.Native.Nat.{ℕ, _+_, _-_, _*_, _<_, _≤_}
 use native.Mathlib.Omega.{arith}
 use lib.ListN.{length, getD, set, take, drop, length-drop, length-set}
 use Rattle.std.proofs.shelf.Lists.{getD-take, getD-drop, take-take, length-take-le, ext-getD, take-set-le, drop-set-lt, drop-set-add, getD-set-same, getD-set-other, drop-drop}
-use Rattle.carriers.specs.Lines.{Only-at}
+use Rattle.carriers.specs.Places.{Only-at}
 use Rattle.carriers.proofs.Rows.{other-queue}
 use Rattle.spool.specs.Rows.{mask-of, record-part, row-at}
 

@@ -2,22 +2,21 @@
 use mathlib.Core.Path.{_≡_, refl, sym, ap, _∙_}
 use mathlib.Core.Bool.{Bool, true, false}
 use mathlib.Core.List.{List}
-use Prim.Native.Nat.{ℕ, _≤_}
+use Prim.Native.Nat.{ℕ}
 use native.Mathlib.Omega.{arith}
 use lib.ListN.{length, take}
 use Rattle.std.proofs.shelf.Lists.{take-all}
 use Rattle.std.proofs.shelf.Tests.{and-from, both-ways, eq-eqb, lt-ltb}
 use Rattle.std.specs.declared.option.Option.{Option}
 use Rattle.std.specs.declared.option.Option.the-variants.{Some, None}
-use Rattle.std.specs.declared.result.Result.{Result}
-use Rattle.std.specs.declared.result.Result.the-variants.{Ok, Err}
+use Rattle.std.specs.declared.result.Result.the-variants.{Err}
 use Rattle.letters.specs.declared.letter.Letter.{Letter}
 use Rattle.letters.specs.Forms.{Form, Lawful}
 use Rattle.letters.specs.Letters.{Parts, parts-of}
 use Rattle.letters.proofs.Checks.{some-none}
 use Rattle.letters.proofs.Same.{same-letter}
 use Rattle.records.specs.Reading.{Undoes, read-answer}
-use Rattle.records.specs.Records.{parts-written, record-of, record-size, wrong-byte, wrong-front}
+use Rattle.records.specs.Records.{record-of, record-size, wrong-byte, wrong-front}
 use Rattle.records.proofs.RoundTrip.{front-whole, record-right, written-back}
 use Rattle.spool.specs.Decoding.{blank-letter, letter-of, letter-or, letter-parts, letter-read}
 

@@ -5,9 +5,7 @@ use mathlib.Core.List.{List}
 use Prim.Native.Nat.{ℕ, _+_, _-_, _<_, _≤_}
 use native.Mathlib.Omega.{arith}
 use Rattle.std.proofs.shelf.Tests.{cases-eq, cases-lt}
-use Rattle.carriers.specs.Lines.{Only-at}
 use Rattle.spool.specs.Rows.{mask-of, row-at}
-use Rattle.spool.proofs.Bytes.{kept-rows}
 
 -- a property of masks that each of the first rows has
 abbrev pub Each : (ℕ → Type 0) → ℕ → List ℕ → Type 0

@@ -1,19 +1,17 @@
 -- What a put and a draw do to what a spool holds.
 use mathlib.Core.Path.{_≡_, refl, sym, ap, subst, _∙_}
-use mathlib.Core.Logic.{⊎-elim, inl, inr, _≢_}
+use mathlib.Core.Logic.{⊎-elim}
 use mathlib.Core.Bool.{Bool, true, false, cond, not, _&&_}
 use mathlib.Core.List.{List, [], _∷_, _++_, append-nil}
-use Prim.Native.Nat.{ℕ, zero, suc, _+_, _-_, _*_, _^_, _<_, _≤_}
+use Prim.Native.Nat.{ℕ, suc, _+_, _-_, _^_, _<_, _≤_}
 use native.Mathlib.Omega.{arith}
 use native.Mathlib.Numerals.{add-one}
 use lib.Dec.{eqb, ltb}
 use lib.Bits.{bitXor, xor-lt}
-use lib.Count.{ones}
-use lib.ListN.{length, getD, take}
-use Rattle.std.specs.Holes.{removed}
+use lib.ListN.{length}
 use Rattle.std.proofs.shelf.Bits.{pow-pos, pow-below}
 use Rattle.std.proofs.shelf.Tests.{cases-eq, cases-lt, and-from, and-left, and-right, cond-false, eq-eqb, ne-eqb, lt-ltb, le-ltb}
-use Rattle.carriers.specs.Lines.{appended}
+use Rattle.carriers.specs.Appending.{appended}
 use Rattle.carriers.specs.Meaning.{Drawn}
 use Rattle.spool.specs.Masks.{all-but, full, marked}
 use Rattle.spool.specs.Rows.{row-at, mask-of, picks, marks-at, letters-at, record-part}

@@ -2,14 +2,13 @@
 use mathlib.Core.Path.{_≡_, refl}
 use mathlib.Core.Bool.{Bool, true, false, _&&_}
 use mathlib.Core.List.{List}
-use Prim.Native.Nat.{ℕ, _<_}
+use Prim.Native.Nat.{ℕ}
 use lib.Dec.{eqb, ltb}
 use lib.ListN.{length, replicate}
 use Rattle.std.proofs.shelf.Tests.{and-parts, eqb-true, ltb-true}
 use Rattle.std.specs.declared.option.Option.{Option}
 use Rattle.std.specs.declared.option.Option.the-variants.{Some, None}
 use Rattle.letters.specs.declared.letter.Letter.{Letter}
-use Rattle.letters.specs.declared.stamp.Stamp.{Stamp}
 use Rattle.letters.specs.Forms.{Form}
 use Rattle.letters.specs.Letters.{Parts, entry-at}
 use Rattle.records.specs.Records.{parts-written, wrong-byte}

@@ -3,12 +3,13 @@ use mathlib.Core.Bool.{Bool, cond}
 use mathlib.Core.List.{List, [], _∷_, _++_}
 use Prim.Native.Nat.{ℕ, zero, suc, _+_, _*_}
 use lib.Dec.{leb}
-use lib.ListN.{length, take}
+use lib.ListN.{take}
 use Rattle.std.specs.declared.result.Result.{Result}
 use Rattle.std.specs.declared.result.Result.the-variants.{Ok}
 use Rattle.letters.specs.Numbers.{number-16}
 use Rattle.letters.specs.Refusals.{Reason, unless}
-use Rattle.carriers.specs.Lines.{queue-at, seats-right}
+use Rattle.carriers.specs.Places.{part-at}
+use Rattle.carriers.specs.Meaning.{seats-right}
 use Rattle.spool.specs.Masks.{marked}
 
 -- how many bytes a row has
@@ -25,7 +26,7 @@ row-fits rows brought = leb (rows * row-size + row-size) brought
 
 -- the row at an index
 abbrev pub row-at : List ℕ → ℕ → List ℕ
-row-at bytes r = queue-at (r * row-size) row-size bytes
+row-at bytes r = part-at (r * row-size) row-size bytes
 
 -- a row's record
 abbrev pub record-part : List ℕ → List ℕ

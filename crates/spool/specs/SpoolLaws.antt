@@ -1,13 +1,13 @@
 -- Spools are lawful.
 use mathlib.Core.Path.{_≡_, refl, ap, sym, _∙_, subst}
-use mathlib.Core.Logic.{⊎-elim, inl, inr}
-use mathlib.Core.Bool.{Bool, true, false, _&&_, cond}
+use mathlib.Core.Logic.{⊎-elim}
+use mathlib.Core.Bool.{Bool, true, false, cond}
 use mathlib.Core.List.{List, [], _∷_, _++_, append-nil}
-use Prim.Native.Nat.{ℕ, zero, suc, _+_, _*_, _/_, _%_, _^_, _<_, _≤_}
+use Prim.Native.Nat.{ℕ, zero, suc, _+_, _/_, _%_, _^_, _<_, _≤_}
 use native.Mathlib.Omega.{arith}
 use native.Mathlib.Nat.{pow-suc, div-eq-of-lt, div-one}
-use lib.Dec.{eqb, ltb, leb}
-use lib.ListN.{length, take, length-append}
+use lib.Dec.{eqb}
+use lib.ListN.{length, length-append}
 use Rattle.std.proofs.shelf.Tests.{lt-ltb, le-ltb, le-leb, and-from, and-left, eq-eqb, cases-eq, cases-order}
 use Rattle.std.proofs.shelf.Bits.{shr-shr, pow-below}
 use Rattle.letters.specs.Forms.{Form}

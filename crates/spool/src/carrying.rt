@@ -6,12 +6,11 @@ ghost use lib.ListN.{length};
 ghost use Rattle.std.specs.declared.result.Result.the-variants.{Ok};
 ghost use Rattle.letters.specs.Letters.{parts, parts-of};
 ghost use Rattle.letters.specs.Refusals.{told};
-ghost use Rattle.carriers.specs.Lines.{Appends};
+ghost use Rattle.carriers.specs.Appending.{Appends};
 ghost use Rattle.carriers.specs.Meaning.{Draw-leaves, Drawn, Empty, Kept, Put-leaves, draw-answer, put-answer};
-ghost use Rattle.spool.specs.Decoding.{letter-of};
-ghost use Rattle.spool.specs.Rows.{letters-at, marks-at, picks, spool-answer};
+ghost use Rattle.spool.specs.Rows.{marks-at, spool-answer};
 ghost use Rattle.spool.specs.SpoolLaws.{lawful-spool};
-ghost use Rattle.spool.specs.Spools.{spool-of};
+ghost use Rattle.spool.specs.Spools.{Adds-row, place-of, spool-of};
 use crate::Spool;
 use crate::masks::all_but;
 use crate::masks::is_done;
@@ -44,6 +43,7 @@ impl<'a, B: Stored> Spool<'a, B> {
         requires { ⌜ spool-answer seats (length (now buffer)) ≡ Ok tt ⌝ }
         ensures seats { λ r. ⌜ r .seats ≡ seats ⌝ }
         ensures empty { λ r. ⌜ Empty (spool-of (B·Body .form) blank r) ⌝ }
+        ensures buffer { λ r. ⌜ r .tape .bytes .now ≡ now (buffer .entry) ⌝ }
     {
         Spool {
             tape: Tape { bytes: buffer },
@@ -59,7 +59,7 @@ impl<'a, B: Stored> Spool<'a, B> {
         requires place { ⌜ place < length (spool-of (B·Body .form) blank (now self) .waiting seat) ⌝ }
         ensures row { λ r. ⌜ r < now (self .entry) .rows ⌝ }
         ensures marked { λ r. ⌜ marks-at (now (self .entry) .tape .bytes .now) seat r ≡ true ⌝ }
-        ensures place { λ r. ⌜ length (picks (marks-at (now (self .entry) .tape .bytes .now) seat) (letters-at (letter-of (B·Body .form) blank) (now (self .entry) .tape .bytes .now)) r) ≡ place ⌝ }
+        ensures place { λ r. ⌜ place-of (B·Body .form) blank (now (self .entry)) seat r ≡ place ⌝ }
     {
         let mut seen = 0;
         for row in 0..self.rows {
@@ -78,7 +78,7 @@ impl<'a, B: Stored> Spool<'a, B> {
         requires seat { ⌜ seat < now self .seats ⌝ }
         requires row { ⌜ row < now self .rows ⌝ }
         requires marked { ⌜ marks-at (now self .tape .bytes .now) seat row ≡ true ⌝ }
-        ensures { λ _. ⌜ Drawn (spool-of (B·Body .form) blank (now (self .entry))) seat (length (picks (marks-at (now (self .entry) .tape .bytes .now) seat) (letters-at (letter-of (B·Body .form) blank) (now (self .entry) .tape .bytes .now)) row)) (spool-of (B·Body .form) blank (now (self .exit))) ⌝ }
+        ensures { λ _. ⌜ Drawn (spool-of (B·Body .form) blank (now (self .entry))) seat (place-of (B·Body .form) blank (now (self .entry)) seat row) (spool-of (B·Body .form) blank (now (self .exit))) ⌝ }
     {
         let left = self.tape.mask(row) ^ (1 << seat);
         if is_done(left) {
@@ -122,6 +122,7 @@ pub impl<'a, B: Stored> Carrier for Spool<'a, B> as SpoolCarrier {
         ensures answer { λ r. ⌜ told (λ u. u) r ≡ put-answer (spool-of (B·Body .form) blank (now (self .entry))) (now (letter .entry) .poster) ⌝ }
         ensures leaves { λ r. ⌜ Put-leaves r (spool-of (B·Body .form) blank (now (self .entry))) (now (letter .entry) .poster) (now (letter .entry)) (spool-of (B·Body .form) blank (now (self .exit))) ⌝ }
         ensures exact { λ r. ⌜ Appends r (spool-of (B·Body .form) blank (now (self .entry))) (now (letter .entry) .poster) (now (letter .entry)) (spool-of (B·Body .form) blank (now (self .exit))) ⌝ }
+        ensures row { λ r. ⌜ Adds-row r (now (self .entry)) (now (letter .entry) .poster) (now (self .exit)) ⌝ }
         ensures kept { λ r. ⌜ Kept r (now (self .entry) .tape .bytes .now) (now (self .exit) .tape .bytes .now) ⌝ }
     {
         let poster = letter.poster();

@@ -3,7 +3,7 @@ ghost use mathlib.Core.Path.{_≡_};
 ghost use Prim.Native.Nat.{ℕ, _+_, _*_, _<_, _≤_};
 ghost use lib.ListN.{length};
 ghost use Rattle.letters.specs.Letters.{parts, parts-of};
-ghost use Rattle.carriers.specs.Lines.{Only-at};
+ghost use Rattle.carriers.specs.Places.{Only-at};
 ghost use Rattle.records.specs.Records.{record-of};
 ghost use Rattle.spool.specs.Decoding.{blank-letter, letter-of};
 ghost use Rattle.spool.specs.Rows.{mask-of, record-part, row-at, row-size};

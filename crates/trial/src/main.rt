@@ -43,6 +43,8 @@ struct Page {
     body: Job,
 }
 
+// The setting that ten bytes write, numbers with the low byte first: the seats of the lines, those of the spool, how many
+// letters are brought (16 bits), how many places a queue has (32) and how many bytes are brought (16).
 fn read_setting(head: &[u8]) -> Option<Setting> {
     match head {
         [line_seats, spool_seats, a, b, c, d, e, f, g, h] => Some(Setting {

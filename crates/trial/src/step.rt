@@ -2,7 +2,7 @@
 
 // What a carrier is asked.
 #[derive(Clone, Copy)]
-pub enum Step {
+pub(crate) enum Step {
     // puts a letter that adds a job
     Put { poster: u8, number: u16, code: u32 },
     Draw { seat: u8, place: u32 },
@@ -12,7 +12,7 @@ pub enum Step {
 }
 
 // The step that eight bytes write: the call, a seat, a 16-bit number and a 32-bit one, the low byte first.
-pub fn read_step(bytes: &[u8]) -> Step {
+pub(crate) fn read_step(bytes: &[u8]) -> Step {
     match bytes {
         [1, poster, low, high, a, b, c, d] => Step::Put {
             poster: *poster,

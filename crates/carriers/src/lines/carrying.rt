@@ -8,7 +8,8 @@ ghost use Rattle.letters.specs.Letters.{parts, parts-of};
 ghost use Rattle.letters.specs.Refusals.{told};
 ghost use Rattle.carriers.specs.Meaning.{Draw-leaves, Drawn, Empty, Kept, Put-leaves, draw-answer, put-answer};
 ghost use Rattle.carriers.specs.LineLaws.{lawful-lines};
-ghost use Rattle.carriers.specs.Lines.{Appends, lines-answer, lines-of};
+ghost use Rattle.carriers.specs.Appending.{Appends};
+ghost use Rattle.carriers.specs.Lines.{lines-answer, lines-of};
 use crate::carrier::Carrier;
 use crate::lines::Lines;
 use crate::rack::Rack;
@@ -37,6 +38,7 @@ impl<'a, B: Body> Lines<'a, B> {
         ensures seats { λ r. ⌜ lines-of r .seats ≡ seats ⌝ }
         ensures size { λ r. ⌜ r .size ≡ size ⌝ }
         ensures empty { λ r. ⌜ Empty (lines-of r) ⌝ }
+        ensures table { λ r. ⌜ r .rack .places .now ≡ now (places .entry) ⌝ }
     {
         Lines {
             rack: Rack { places },

@@ -1,6 +1,6 @@
-use mathlib.Core.Path.{_≡_, subst, sym, _∙_}
+use mathlib.Core.Path.{subst}
 use mathlib.Core.Logic.{⊎-elim}
-use Prim.Native.Nat.{_-_, _^_, _<_, _≤_}
+use Prim.Native.Nat.{_-_, _^_, _<_}
 use native.Mathlib.Omega.{arith}
 use Rattle.letters.specs.Letters.{parts-of}
 use Rattle.pair.specs.PairLaws.{equal-seats}

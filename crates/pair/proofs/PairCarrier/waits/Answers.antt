@@ -1,4 +1,4 @@
-use mathlib.Core.Path.{sym, _∙_}
+use mathlib.Core.Path.{_∙_}
 use Rattle.pair.specs.PairLaws.{equal-seats}
 use Rattle.pair.proofs.Pairs.{waits-joined}
 use Rattle.pair.proofs.PairCarrier.waits.Needs as need

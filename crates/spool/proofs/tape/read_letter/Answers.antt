@@ -1,4 +1,4 @@
-use mathlib.Core.Path.{_≡_, refl, sym, ap, _∙_}
+use mathlib.Core.Path.{sym, ap, _∙_}
 use Rattle.letters.specs.Letters.{parts-of}
 use Rattle.spool.proofs.Decoded.{letter-read-right, letter-read-wrong}
 use Rattle.spool.proofs.tape.read_letter.Needs as need

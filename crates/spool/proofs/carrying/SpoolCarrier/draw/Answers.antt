@@ -1,14 +1,12 @@
 use mathlib.Core.Path.{_≡_, sym, ap, subst, _∙_}
-use Prim.Native.Nat.{_<_, _≤_}
-use native.Mathlib.Omega.{arith}
+use Prim.Native.Nat.{_<_}
 use lib.ListN.{length, getD}
-use mathlib.Core.List.{map}
 use Rattle.std.proofs.shelf.Lists.{getD-map}
 use Rattle.letters.specs.Letters.{parts-of}
 use Rattle.carriers.specs.Meaning.{Drawn}
 use Rattle.carriers.proofs.Decisions.{draw-ok}
 use Rattle.spool.specs.Decoding.{letter-of}
-use Rattle.spool.specs.Rows.{letters-at, marks-at, picks}
+use Rattle.spool.specs.Rows.{letters-at, marks-at}
 use Rattle.spool.specs.Spools.{spool-of}
 use Rattle.spool.proofs.Picks.{picks-at, picks-grow}
 use Rattle.spool.proofs.carrying.SpoolCarrier.draw.Needs as need

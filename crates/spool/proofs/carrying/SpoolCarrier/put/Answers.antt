@@ -1,10 +1,11 @@
 use mathlib.Core.Path.{_≡_, refl, sym, ap, subst, _∙_}
-use mathlib.Core.Bool.{true}
 use Prim.Native.Nat.{ℕ, _+_, _*_, _^_, _<_, _≤_}
 use native.Mathlib.Omega.{arith}
-use lib.Dec.{leb, ltb}
+use lib.Count.{ones}
+use lib.Dec.{eqb, ltb}
+use mathlib.Core.Bool.{cond}
 use lib.ListN.{length}
-use Rattle.std.proofs.shelf.Tests.{and-parts, eqb-false, eqb-true, leb-true}
+use Rattle.std.proofs.shelf.Tests.{and-parts, cond-false, cond-true, eqb-false, eqb-true, leb-true}
 use Rattle.carriers.specs.Meaning.{put-answer}
 use Rattle.carriers.proofs.Appended.{put-appended}
 use Rattle.carriers.proofs.Decisions.{put-ok}
@@ -61,14 +62,19 @@ returns-then-not-is-done g c =
     let read = letter-of form blank in
     let is = c .poster-poster .ensures in
     let m = spool-of form blank s in
+    let mask-is : c .all-but-mask .result ≡ all-but (s .seats) (x .poster) = c .all-but-mask .ensures ∙ ap (all-but (s .seats)) is in
     let exact = spooled read (s .seats) (s .rows) b a (x .poster) x (subst (λ p. p < s .seats) is (c .if-poster-self .left))
     (λ r l. kept-rows mid a (s .rows) (c .set-mask .ensures .only) r (omega arith) ∙ kept-rows b mid (s .rows) (c .write .ensures .only) r (omega arith))
-    (c .set-mask .ensures .mask ∙ c .all-but-mask .ensures ∙ ap (all-but (s .seats)) is)
+    (c .set-mask .ensures .mask ∙ mask-is)
     (ap read (c .set-mask .ensures .letter ∙ c .write .ensures .letter) ∙ letter-back blank form (g .B·Body·met .lawful) x) in
     record {
       answer = sym (ap (put-answer m) (sym is) ∙ put-ok m (c .poster-poster .result) (c .if-poster-self .left) (sym (c .fits-2 .ensures) ∙ c .if-not-fits .left));
       leaves = put-appended m (spool-meaning read (s .seats) (s .rows + 1) a) (x .poster) x refl exact;
       exact = exact;
+      row = (
+        sym (ap (λ n. cond (eqb (ones n) 0) (s .rows) (s .rows + 1)) (sym mask-is) ∙ cond-false _ _ _ (sym (c .is-done .ensures) ∙ c .if-not-is-done .taken)),
+        λ r low high. let at : s .rows ≡ r = omega arith in subst (λ j. mask-of (row-at a j) ≡ all-but (s .seats) (x .poster)) at (c .set-mask .ensures .mask ∙ mask-is),
+      );
       kept = tt;
     }
 
@@ -81,12 +87,17 @@ returns-else-not-is-done g c =
     let blank = g .B·Stored .blank in
     let is = c .poster-poster .ensures in
     let m = spool-of form blank s in
+    let mask-is : c .all-but-mask .result ≡ all-but (s .seats) (x .poster) = c .all-but-mask .ensures ∙ ap (all-but (s .seats)) is in
     let few : c .all-but-mask .result < 2 ^ s .seats = subst (λ m. m < 2 ^ s .seats) (sym (c .all-but-mask .ensures)) (but-below (s .seats) (c .poster-poster .result) (c .if-poster-self .left)) in
     let none : c .all-but-mask .result ≡ 0 = ones-none (s .seats) _ (eqb-true _ _ (sym (c .is-done .ensures) ∙ c .if-not-is-done .left)) few in
-    let exact = nobody-else (letter-of form blank) (s .seats) (s .rows) b (x .poster) x (subst (λ p. p < s .seats) is (c .if-poster-self .left)) (ap (all-but (s .seats)) (sym is) ∙ sym (c .all-but-mask .ensures) ∙ none) in
+    let exact = nobody-else (letter-of form blank) (s .seats) (s .rows) b (x .poster) x (subst (λ p. p < s .seats) is (c .if-poster-self .left)) (sym mask-is ∙ none) in
     record {
       answer = sym (ap (put-answer m) (sym is) ∙ put-ok m (c .poster-poster .result) (c .if-poster-self .left) (sym (c .fits-2 .ensures) ∙ c .if-not-fits .left));
       leaves = put-appended m m (x .poster) x refl exact;
       exact = exact;
+      row = (
+        sym (ap (λ n. cond (eqb (ones n) 0) (s .rows) (s .rows + 1)) (sym mask-is) ∙ cond-true _ _ _ (sym (c .is-done .ensures) ∙ c .if-not-is-done .left)),
+        λ r low high. absurd (omega arith),
+      );
       kept = tt;
     }

@@ -1,10 +1,10 @@
 use mathlib.Core.Path.{_≡_, ap, sym, _∙_}
-use Prim.Native.Nat.{_+_, min, _^_, _-_}
+use Prim.Native.Nat.{min, _^_, _-_}
 use native.Mathlib.Omega.{arith}
 use lib.ListN.{length}
 use Rattle.spool.specs.Masks.{marked}
 use Rattle.spool.specs.Decoding.{letter-of}
-use Rattle.spool.specs.Rows.{marks-at, letters-at, picks}
+use Rattle.spool.specs.Rows.{marks-at, letters-at}
 use Rattle.spool.specs.SpoolLaws.{picks-none, no-bit}
 use Rattle.spool.proofs.Picks.{picks-yes, picks-not}
 use Rattle.spool.proofs.carrying.SpoolCarrier.waits.Needs as need

@@ -1,9 +1,9 @@
-use mathlib.Core.Path.{_≡_, refl, sym, ap, _∙_}
-use Prim.Native.Nat.{_<_, _≤_}
+use mathlib.Core.Path.{refl, sym, ap, _∙_}
+use Prim.Native.Nat.{_<_}
 use native.Mathlib.Omega.{arith}
-use lib.ListN.{length, getD}
+use lib.ListN.{length}
 use Rattle.std.proofs.shelf.Lists.{getD-map}
-use Rattle.letters.specs.Letters.{parts, parts-of}
+use Rattle.letters.specs.Letters.{parts-of}
 use Rattle.carriers.specs.Lines.{lines-of}
 use Rattle.carriers.specs.LineLaws.{length-waiting}
 use Rattle.carriers.proofs.Decisions.{draw-ok, draw-no-place}

@@ -1,6 +1,4 @@
-use mathlib.Core.Path.{sym, ap, _∙_, _≡_}
-use mathlib.Core.Bool.{_&&_, true}
-use Prim.Native.Nat.{suc, _+_}
+use mathlib.Core.Path.{sym, ap, _∙_}
 use native.Mathlib.Numerals.{add-one}
 use Rattle.std.proofs.shelf.Tests.{and-right}
 use Rattle.carriers.specs.Lines.{others-free}

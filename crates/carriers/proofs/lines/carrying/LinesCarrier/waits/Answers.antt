@@ -1,7 +1,4 @@
-use mathlib.Core.Path.{_≡_}
 use native.Mathlib.Omega.{arith}
-use lib.ListN.{getD}
-use Prim.Native.Nat.{_≤_, _<_}
 use Rattle.carriers.specs.LineLaws.{length-waiting}
 use Rattle.carriers.proofs.lines.carrying.LinesCarrier.waits.Needs as need
 
