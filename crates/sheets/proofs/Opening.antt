@@ -1,15 +1,15 @@
 -- A job put in at its place is opened, and the jobs stay in order.
-use mathlib.Core.Bool.{Bool, true, false, cond, not, _&&_}
+use mathlib.Core.Bool.{Bool, true, false, not}
 use mathlib.Core.List.{List, [], _∷_, _++_}
 use mathlib.Core.Logic.{_⊎_, inl, inr}
-use mathlib.Core.Path.{_≡_, refl, sym, ap, _∙_}
+use mathlib.Core.Path.{_≡_, refl, ap, _∙_}
 use native.Mathlib.Omega.{arith}
 use Rattle.std.specs.shelf.Lists.{kept-by}
 use Rattle.std.proofs.shelf.Tests.{cases-bool, and-parts, and-from}
 use Rattle.std.proofs.shelf.Ways.{tells}
 use Rattle.sheets.specs.declared.open_job.OpenJob.{OpenJob}
 use Rattle.sheets.specs.JobLists.{is-other, with-job, without-job}
-use Rattle.sheets.specs.OpenJobs.{all-after, job-after, job-is, rising}
+use Rattle.sheets.specs.OpenJobs.{all-after, job-after, rising}
 use Rattle.sheets.specs.Placing.{placed}
 use Rattle.sheets.proofs.Jobs.{all-pass, none-pass, all-after-kept, rising-kept}
 

@@ -1,4 +1,4 @@
--- What a job list means: the open jobs, in order of p.n, and how many letters were entered.
+-- Job lists: the open jobs, in order of p.n.
 use mathlib.Core.Path.{_≡_}
 use mathlib.Core.Bool.{Bool, cond, not, _&&_}
 use mathlib.Core.List.{List, [], _∷_, _++_}
@@ -22,6 +22,7 @@ use Rattle.sheets.specs.Sheets.{Kind}
 abbrev pub open-job : ℕ → ℕ → ℕ → OpenJob
 open-job p n code = record { poster = p; number = n; code = code }
 
+-- the job is another than p.n
 abbrev pub is-other : ℕ → ℕ → OpenJob → Bool
 is-other p n r = not (job-is r p n)
 
@@ -53,7 +54,7 @@ code-after (Add code) m p n before = cond (eqb (m .poster) p && eqb (number-of m
 code-after (Strike id) m p n before =
     cond (eqb (id .poster) p && eqb (id .number) n && covers (m .stamp) p n) None before
 
--- a list of open jobs, seen as codes by their names
+-- a letter changes the codes of jobs in that way and in no other
 abbrev pub Codes-follow : Type 0
 Codes-follow =
     (m : Letter Job) (jobs : List OpenJob) (p n : ℕ) → code-in (job-does (m .body) m jobs) p n ≡ code-after (m .body) m p n (code-in jobs p n)
@@ -63,9 +64,11 @@ pub record Listed : Type 0 where
   pub count : ℕ
   pub jobs : List OpenJob
 
+-- a job list with nothing entered
 abbrev pub no-jobs : Listed
 no-jobs = record { count = 0; jobs = [] }
 
+-- a letter does what its body says, and is counted
 abbrev pub job-entered : Listed → Letter Job → Listed
 job-entered m x = record { count = m .count + 1; jobs = job-does (x .body) x (m .jobs) }
 
@@ -73,6 +76,7 @@ job-entered m x = record { count = m .count + 1; jobs = job-does (x .body) x (m 
 abbrev pub job-list-kind : Kind Listed Job
 job-list-kind = record { places = 128; count = λ m. m .count; empty = no-jobs; entered = job-entered }
 
+-- what a job list means: the rows in use
 abbrev pub listed-by : JobList → Listed
 listed-by s = record { count = s .entered; jobs = take (s .len) (s .rows) }
 

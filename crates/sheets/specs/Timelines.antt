@@ -1,4 +1,4 @@
--- What a timeline means: its rows, by rank and poster.
+-- Timelines: rows by rank and poster.
 use mathlib.Core.Bool.{Bool, _&&_, _||_}
 use mathlib.Core.List.{List, []}
 use Prim.Native.Nat.{ℕ, _+_}
@@ -26,6 +26,7 @@ pub record Shown : Type 0 where
   pub count : ℕ
   pub rows : List Row
 
+-- a timeline with nothing entered
 abbrev pub no-rows : Shown
 no-rows = record { count = 0; rows = [] }
 
@@ -37,5 +38,6 @@ row-entered m x = record { count = m .count + 1; rows = placed row-after (m .row
 abbrev pub timeline-kind : Kind Shown Text
 timeline-kind = record { places = 256; count = λ m. m .count; empty = no-rows; entered = row-entered }
 
+-- what a timeline means: the rows in use
 abbrev pub shown-by : Timeline → Shown
 shown-by s = record { count = s .len; rows = take (s .len) (s .rows) }
