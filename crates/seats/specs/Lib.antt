@@ -1,3 +1,5 @@
 pub mod Seats
 pub mod Rooms
+pub mod Keeping
 pub mod Outcomes
+pub mod Scans

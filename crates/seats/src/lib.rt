@@ -1,3 +1,5 @@
 // What a room keeps for its seats, and what each call on a room comes to.
+pub mod finding;
+pub mod parts;
 pub mod seat;
 pub mod taken;

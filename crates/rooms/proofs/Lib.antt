@@ -1,0 +1,6 @@
+pub mod Rooms
+pub mod Posting
+pub mod Showing
+pub mod Taking
+pub mod Closing
+pub mod Drafts
