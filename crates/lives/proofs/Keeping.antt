@@ -1,6 +1,7 @@
 -- What is kept of a room that was worked.
 use mathlib.Core.Path.{_≡_, refl, sym, ap, subst, _∙_}
 use mathlib.Core.List.{List, [], _∷_, _++_, append-nil, map}
+use mathlib.Core.Logic.{inl, inr}
 use Prim.Native.Nat.{ℕ, _+_, _*_, _≤_, _<_}
 use native.Mathlib.Omega.{arith}
 use lib.ListN.{length, take, drop, take-append-drop}
@@ -9,11 +10,12 @@ use Rattle.letters.specs.Letters.{letter-name}
 use Rattle.letters.specs.Names.{Name}
 use Rattle.letters.specs.Order.{Ready}
 use Rattle.causality.specs.declared.docket.DocketState.the-variants.{Clear}
-use Rattle.causality.specs.History.{Event, History, Led-to, posted, posted-letters, shown}
+use Rattle.causality.specs.History.{Event, History, Led-to, Seen, posted, posted-letters, shown, told}
 use Rattle.causality.specs.Lists.{_∈_, here, there}
 use Rattle.causality.specs.Theorems as theorems
 use Rattle.causality.specs.Worlds.{Box, World}
 use Rattle.causality.proofs.Lists.{in-as, in-eq, in-none}
+use Rattle.causality.proofs.Named.{seen-told}
 use Rattle.causality.proofs.Theorems.{causal-order, complete-delivery, order-for-sheets}
 use Rattle.sheets.specs.Sheets.{Kind, Lawful}
 use Rattle.seats.specs.Rooms.{RoomState, seat-at, start}
@@ -57,6 +59,14 @@ among-posted s m (posted t k ∷ h) (there i) = there (among-posted s m h i)
 among-posted s m (shown t k ∷ h) (here e) = let z : _≡_ {A = ℕ} 0 1 = cc in absurd (omega arith)
 among-posted s m (shown t k ∷ h) (there i) = among-posted s m h i
 
+-- what was seen was seen where the events are told by names
+seen-as : {A L : Type 0} (f : A → L) (s : ℕ) (i : L) (x : A) (h : History A) → Seen s x h → f x ≡ i → Seen s i (told f h)
+seen-as f s i x [] seen e = seen
+seen-as f s i x (posted t k ∷ h) (inl at) e = inl (at .0, sym e ∙ ap f (at .1))
+seen-as f s i x (posted t k ∷ h) (inr seen) e = inr (seen-as f s i x h seen e)
+seen-as f s i x (shown t k ∷ h) (inl at) e = inl (at .0, sym e ∙ ap f (at .1))
+seen-as f s i x (shown t k ∷ h) (inr seen) e = inr (seen-as f s i x h seen e)
+
 module _ {B : Type 0} (trace : Trace B) (w : Moment B) (life : Lives trace w) where
   abbrev st : RoomState
   st = w .room
@@ -76,10 +86,16 @@ module _ {B : Type 0} (trace : Trace B) (w : Moment B) (life : Lives trace w) wh
   in-log : (s : ℕ) → s < N → view w .box s .log ≡ log-at w s
   in-log s lt = ap (λ (b : Box B). b .log) (in-box s lt)
 
-  order-kept : (s : ℕ) → s < N → In-order trace (log-at w s)
+  order-kept : (s : ℕ) → s < N → In-order trace s (log-at w s)
   order-kept s lt =
       let order : theorems.In-order s h (log-at w s) = subst (theorems.In-order s h) (in-log s lt) (causal-order .in-order N Q (view w) h (life .run) s) in
       record {
+        seen = λ i. (
+          λ stands. subst (Seen s i) (life .events-are) (seen-as letter-name s i (stands .letter) h (order .seen (stands .letter) .0 (stands .inside)) (stands .called)),
+          λ seen.
+              let x = seen-told letter-name s i h (subst (Seen s i) (sym (life .events-are)) seen) in
+              record { letter = x .0; inside = order .seen (x .0) .1 (x .1); called = x .2 },
+        );
         once = order .once;
         led = λ a b m i e led. order .led-by-name a b m i e (subst (λ (past : History Name). Led-to past i (letter-name m)) (sym (life .events-are)) led);
         covered = order .covered;

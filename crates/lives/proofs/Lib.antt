@@ -12,3 +12,4 @@ pub mod Opening
 pub mod Going
 pub mod Agreeing
 pub mod Keeping
+pub mod Tracing

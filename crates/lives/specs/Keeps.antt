@@ -10,7 +10,7 @@ use Rattle.letters.specs.Letters.{letter-name}
 use Rattle.letters.specs.Names.{Name, name}
 use Rattle.letters.specs.Order.{Covers, Ready}
 use Rattle.causality.specs.declared.docket.DocketState.the-variants.{Clear}
-use Rattle.causality.specs.History.{Led-to}
+use Rattle.causality.specs.History.{Led-to, Seen}
 use Rattle.causality.specs.Lists.{_∈_}
 use Rattle.causality.specs.Logs.{Once, Stands}
 use Rattle.sheets.specs.Sheets.{Kind, draw-up-outcome}
@@ -27,9 +27,10 @@ module _ {B : Type 0} where
   abbrev pub hold-at : Moment B → ℕ → List (Letter B)
   hold-at w s = hold-of (w .room) (w .holds) s
 
-  -- No letter stands twice in the log, and above each letter stands everything that led to it (happened before it), and
-  -- everything that it covers but itself.
-  pub record In-order (trace : Trace B) (log : List (Letter B)) : Type 0 where
+  -- The log of seat s holds the letters that were posted or shown there, none twice, and above each letter everything that
+  -- led to it (happened before it), and everything that it covers but itself.
+  pub record In-order (trace : Trace B) (s : ℕ) (log : List (Letter B)) : Type 0 where
+    pub seen : (i : Name) → Stands i log ↔ Seen s i (events trace)
     pub once : Once log
     pub led : (a b : List (Letter B)) (m : Letter B) (i : Name) → log ≡ a ++ (m ∷ b) → Led-to (events trace) i (letter-name m) → Stands i a
     pub covered : (a b : List (Letter B)) (m : Letter B) (p n : ℕ) → log ≡ a ++ (m ∷ b) → 1 ≤ n → Covers m p n
@@ -73,7 +74,7 @@ module _ {M B : Type 0} (kind : Kind M B) where
   -- What a room keeps that was worked by the steps of the trace.
   pub record Keeps (trace : Trace B) (w : Moment B) : Type 0 where
     -- causal order
-    pub in-order : (s : ℕ) → s < w .room .count → In-order trace (log-at w s)
+    pub in-order : (s : ℕ) → s < w .room .count → In-order trace s (log-at w s)
     pub genuine : (s : ℕ) → s < w .room .count → (m : Letter B) → m ∈ log-at w s → Genuine trace w m
     -- complete delivery
     pub complete : (s : ℕ) → s < w .room .count → Settled w s → Complete trace w s

@@ -3,12 +3,14 @@ use mathlib.Core.List.{List, [], _∷_}
 use Prim.Native.Nat.{ℕ}
 use Rattle.std.specs.declared.result.Result.{Result}
 use Rattle.std.specs.declared.result.Result.the-variants.{Ok, Err}
-use Rattle.letters.specs.Names.{Name, name}
-use Rattle.letters.specs.Refusals.{Reason}
+use Rattle.letters.specs.Names.{Name, name, name-of}
+use Rattle.letters.specs.Refusals.{Reason, reason}
 use Rattle.causality.specs.History.{History, posted, shown}
-use Rattle.seats.specs.Outcomes.{Slip, Taking}
+use Rattle.seats.specs.Outcomes.{Slip, Taking, taken-as}
 use Rattle.lives.specs.declared.moves.Move.{Move}
 use Rattle.lives.specs.declared.moves.Move.the-variants as moves
+use Rattle.lives.specs.declared.reply.Reply.{Reply}
+use Rattle.lives.specs.declared.reply.Reply.the-variants as replies
 
 -- the docket of these numbers
 abbrev pub slip : ℕ → ℕ → ℕ → Slip
@@ -43,6 +45,14 @@ abbrev pub shows : Result Name Reason → Answer
 shows (Ok i) = showed i
 shows (Err why) = refused why
 
+-- an answer that a step gave
+abbrev pub answer-of : Reply → Answer
+answer-of (replies.Docket room seat number) = docket (slip room seat number)
+answer-of replies.Done = done
+answer-of (replies.Taken t) = taken (taken-as t .0) (taken-as t .1)
+answer-of (replies.Shown id) = showed (name-of id)
+answer-of (replies.Refused why) = refused (reason why)
+
 -- a step that was made, with its answer
 pub record Made (B : Type 0) : Type 0 where
   pub move : Move B
@@ -76,6 +86,12 @@ by-show s (refused why) past = past
 module _ {B : Type 0} where
   abbrev pub made : Move B → Answer → Made B
   made move answer = record { move = move; answer = answer }
+
+  -- the trace after these steps were made in turn; f tells the answers
+  abbrev pub traced : {X : Type 0} → (X → Answer) → Trace B → List (Move B) → List X → Trace B
+  traced f past [] answers = past
+  traced f past (move ∷ later) [] = past
+  traced f past (move ∷ later) (answer ∷ answers) = traced f (made move (f answer) ∷ past) later answers
 
   abbrev pub posting : Name → B → Posting B
   posting i body = record { name = i; body = body }
