@@ -13,3 +13,4 @@ pub mod Going
 pub mod Agreeing
 pub mod Keeping
 pub mod Tracing
+pub mod Following
