@@ -7,7 +7,8 @@ use Rattle.letters.specs.Lists.{_∈_, here, there}
 use Rattle.causality.specs.History.{History, posted, shown, posted-letters, Seen, Before, Led-to, direct, through, told}
 
 module _ {A L : Type 0} (f : A → L) where
-  seen-told : (s : ℕ) (i : L) (h : History A) → Seen s i (told f h) → (x : A) × Seen s x h × (f x ≡ i)
+  -- what was seen by a name was seen
+  pub seen-told : (s : ℕ) (i : L) (h : History A) → Seen s i (told f h) → (x : A) × Seen s x h × (f x ≡ i)
   seen-told s i [] x = absurd x
   seen-told s i (posted t m ∷ h) (inl e) = (m, inl (e .0, refl), sym (e .1))
   seen-told s i (posted t m ∷ h) (inr x) = let r = seen-told s i h x in (r .0, inr (r .1), r .2)

@@ -1,0 +1,16 @@
+pub mod Parts
+pub mod Clocks
+pub mod Cut
+pub mod Views
+pub mod Splits
+pub mod Posting
+pub mod Sending
+pub mod Showing
+pub mod Taking
+pub mod Lives
+pub mod Opening
+pub mod Going
+pub mod Agreeing
+pub mod Keeping
+pub mod Tracing
+pub mod Following

@@ -1,0 +1,59 @@
+-- Steps made one after the other, and the trace of them.
+use mathlib.Core.Path.{_≡_, refl, sym, ap, subst, _∙_}
+use mathlib.Core.List.{List, [], _∷_}
+use Prim.Native.Nat.{ℕ, zero, suc, _+_, _≤_, _<_}
+use native.Mathlib.Omega.{arith}
+use lib.ListN.{length, getD, take, set}
+use Rattle.std.proofs.shelf.Lists.{getD-set-same, take-set-le, length-set}
+use Rattle.lives.specs.declared.moves.Move.{Move}
+use Rattle.lives.specs.Traces.{Answer, Made, Trace, made, traced}
+use Rattle.lives.specs.Worked.{Moment, Step, Worked, further}
+
+module _ {B X : Type 0} (f : X → Answer) where
+  -- one step more
+  traced-more : (past : Trace B) (steps : List (Move B)) (answers : List X) (i : ℕ) (move : Move B) (answer : X) → i < length steps → i < length answers
+      → move ≡ getD steps i move → answer ≡ getD answers i answer
+      → traced f past (take (suc i) steps) (take (suc i) answers) ≡ made move (f answer) ∷ traced f past (take i steps) (take i answers)
+  traced-more past [] answers i move answer l k e g = absurd (omega arith)
+  traced-more past (x ∷ steps) [] i move answer l k e g = absurd (omega arith)
+  traced-more past (x ∷ steps) (y ∷ answers) zero move answer l k e g = λ j. made (sym e j) (f (sym g j)) ∷ past
+  traced-more past (x ∷ steps) (y ∷ answers) (suc i) move answer l k e g =
+      traced-more (made x (f y) ∷ past) steps answers i move answer (omega arith) (omega arith) e g
+
+  -- all the steps
+  traced-all : (past : Trace B) (steps : List (Move B)) (answers : List X) (i : ℕ) → length steps ≤ i
+      → traced f past (take i steps) (take i answers) ≡ traced f past steps answers
+  traced-all past [] answers zero l = refl
+  traced-all past [] answers (suc i) l = refl
+  traced-all past (x ∷ steps) answers zero l = absurd (omega arith)
+  traced-all past (x ∷ steps) [] (suc i) l = refl
+  traced-all past (x ∷ steps) (y ∷ answers) (suc i) l = traced-all (made x (f y) ∷ past) steps answers i (omega arith)
+
+  -- a room that was worked by the first i steps is worked by one more, once its answer is written down
+  pub worked-next : (past : Trace B) (steps : List (Move B)) (answers answers′ : List X) (i : ℕ) (move : Move B) (answer : X) (w w′ : Moment B)
+      → Worked (traced f past (take i steps) (take i answers)) w → Step move w (f answer) w′
+      → i < length steps → i < length answers → move ≡ getD steps i move → answers′ ≡ set answers i answer
+      → Worked (traced f past (take (i + 1) steps) (take (i + 1) answers′)) w′
+  worked-next past steps answers answers′ i move answer w w′ was step l k e write =
+      subst (λ (trace : Trace B). Worked trace w′) (sym same) (further was step)
+    where
+      at : answer ≡ getD (set answers i answer) i answer
+      at = sym (getD-set-same answers i answer answer k)
+
+      long : i < length (set answers i answer)
+      long = simp length-set k
+
+      next : i + 1 ≡ suc i
+      next = omega arith
+
+      same : traced f past (take (i + 1) steps) (take (i + 1) answers′) ≡ made move (f answer) ∷ traced f past (take i steps) (take i answers)
+      same =
+          ap (λ (o : List X). traced f past (take (i + 1) steps) (take (i + 1) o)) write
+          ∙ ap (λ (n : ℕ). traced f past (take n steps) (take n (set answers i answer))) next
+          ∙ traced-more past steps (set answers i answer) i move answer l long e at
+          ∙ ap (λ (o : List X). made move (f answer) ∷ traced f past (take i steps) o) (take-set-le i answers i answer (omega arith))
+
+  -- and by all of them in the end
+  pub worked-all : (past : Trace B) (steps : List (Move B)) (answers : List X) (i : ℕ) (w : Moment B) → length steps ≤ i
+      → Worked (traced f past (take i steps) (take i answers)) w → Worked (traced f past steps answers) w
+  worked-all past steps answers i w l was = subst (λ (trace : Trace B). Worked trace w) (traced-all past steps answers i l) was
