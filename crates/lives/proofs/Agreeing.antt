@@ -14,27 +14,12 @@ use Rattle.letters.specs.Letters.{letter-name}
 use Rattle.letters.specs.Names.{Name}
 use Rattle.letters.specs.Order.{Same-letter}
 use Rattle.letters.specs.Refusals.{Reason, unless}
-use Rattle.letters.specs.Lists.{Apart, _∈_, here, there}
+use Rattle.letters.specs.Lists.{_∈_}
 use Rattle.causality.specs.Logs.{For-sheets}
 use Rattle.causality.proofs.Lists.{in-as}
-use Rattle.sheets.specs.Lists as sheet
 use Rattle.sheets.specs.Sheets.{Kind, Lawful, draw-up-outcome, drawn-up}
 use Rattle.sheets.proofs.Sheets.{converges}
 use Rattle.lives.specs.Keeps.{Agree, Same-letters}
-
-module _ {A : Type 0} where
-  -- what stands in a list, in the words of the two crates
-  on-sheet : {x : A} {l : List A} → x ∈ l → sheet._∈_ x l
-  on-sheet (here e) = sheet.here e
-  on-sheet (there i) = sheet.there (on-sheet i)
-
-  in-log : {x : A} {l : List A} → sheet._∈_ x l → x ∈ l
-  in-log (sheet.here e) = here e
-  in-log (sheet.there i) = there (in-log i)
-
-  apart-on-sheet : (R : A → A → Type 0) (l : List A) → Apart R l → sheet.Apart R l
-  apart-on-sheet R [] p = tt
-  apart-on-sheet R (x ∷ l) p = (λ y i. p .0 y (in-log i), apart-on-sheet R l (p .1))
 
 -- letters of one name are the same
 pub same-named : {B : Type 0} (m k : Letter B) → letter-name m ≡ letter-name k → Same-letter m k
@@ -53,16 +38,15 @@ agree {M} {B} kind laws a b fit same m m′ e e′ =
     let d = drawn kind a m e in
     let d′ = drawn kind b m′ e′ in
     d .is
-    ∙ converges kind laws a b (d .fits) (apart-on-sheet _ a (fit .once)) (apart-on-sheet _ b (fit .once′))
-    (apart-on-sheet _ a (fit .onward)) (apart-on-sheet _ b (fit .onward′)) (λ x. (into x, back x))
+    ∙ converges kind laws a b (d .fits) (fit .once) (fit .once′) (fit .onward) (fit .onward′) (λ x. (into x, back x))
     ∙ sym (d′ .is)
   where
-    into : (x : Letter B) → sheet._∈_ x a → sheet._∈_ x b
+    into : (x : Letter B) → x ∈ a → x ∈ b
     into x i =
-        let s = same .into x (in-log i) in
-        on-sheet (in-as (fit .equal x (s .letter) (in-log i) (s .inside) (same-named x (s .letter) (sym (s .called)))) (s .inside))
+        let s = same .into x i in
+        in-as (fit .equal x (s .letter) i (s .inside) (same-named x (s .letter) (sym (s .called)))) (s .inside)
 
-    back : (x : Letter B) → sheet._∈_ x b → sheet._∈_ x a
+    back : (x : Letter B) → x ∈ b → x ∈ a
     back x i =
-        let s = same .back x (in-log i) in
-        on-sheet (in-as (sym (fit .equal (s .letter) x (s .inside) (in-log i) (same-named (s .letter) x (s .called)))) (s .inside))
+        let s = same .back x i in
+        in-as (sym (fit .equal (s .letter) x (s .inside) i (same-named (s .letter) x (s .called)))) (s .inside)
