@@ -28,8 +28,7 @@ use Rattle.seats.specs.Seats.{allows, docketed, moved}
 use Rattle.lives.specs.declared.moves.Move.{Move}
 use Rattle.lives.specs.declared.moves.Move.the-variants as moves
 use Rattle.lives.specs.Traces.{Answer, Trace, done, docket, dockets, does, events, happened, made, posting, postings, refused, showed, shows, slip, takes, with-step}
-use Rattle.lives.specs.Worked.{Moment, Step, Worked, moment, further, opened}
-use Rattle.lives.specs.Worked as worked
+use Rattle.lives.specs.Worked.{Leads, Moment, Step, Worked, further, moment, nowhere}
 use Rattle.lives.proofs.Clocks.{Fit, still-fit}
 use Rattle.lives.proofs.Lives.{Lives, arrives}
 use Rattle.lives.proofs.Opening.{begins}
@@ -254,7 +253,10 @@ module _ {B : Type 0} (trace : Trace B) (w w′ : Moment B) (lives : Lives trace
   goes-on (moves.Take s place) p = took-on s place _ refl (p .result) (p .answers) (p .leaves) (p .logs)
   goes-on (moves.Show s) p = shown-on s _ refl (p .answers) (p .room) (p .logs) (p .holds) (p .carrier)
 
+leads-on : {B : Type 0} {w : Moment B} → Lives [] w → {trace : Trace B} {w′ : Moment B} → Leads w trace w′ → Lives trace w′
+leads-on life nowhere = life
+leads-on life (further {trace} {w} {w′} {move} {answer} led step) = goes-on trace w w′ (leads-on life led) answer move step
+
 -- every room that was worked has a run behind it
 pub lives : {B : Type 0} {trace : Trace B} {w : Moment B} → Worked trace w → Lives trace w
-lives (opened {w} o) = begins w o
-lives (further {trace} {w} {w′} {move} {answer} was step) = goes-on trace w w′ (lives was) answer move step
+lives was = leads-on (begins (was .first) (was .opened)) (was .led)
