@@ -1,26 +1,22 @@
 -- Two lists of the same letters, in the order that logs have, come to the same on every kind of sheet.
-use mathlib.Core.Bool.{Bool, true}
-use mathlib.Core.Path.{_≡_, sym, ap, subst, _∙_}
+use mathlib.Core.Path.{_≡_, sym, ap, _∙_}
 use mathlib.Core.List.{List, [], _∷_}
-use Prim.Native.Nat.{ℕ, _≤_}
+use Prim.Native.Nat.{_≤_}
 use native.Mathlib.Omega.{arith}
-use lib.Dec.{leb}
 use lib.ListN.{length}
-use Rattle.std.specs.declared.result.Result.{Result}
 use Rattle.std.specs.declared.result.Result.the-variants.{Ok}
 use Rattle.std.proofs.shelf.Ways.{tells}
 use Rattle.letters.specs.declared.letter.Letter.{Letter}
 use Rattle.letters.specs.Letters.{letter-name}
 use Rattle.letters.specs.Names.{Name}
 use Rattle.letters.specs.Order.{Same-letter}
-use Rattle.letters.specs.Refusals.{Reason, unless}
 use Rattle.causality.specs.Lists.{Apart, _∈_, here, there}
 use Rattle.causality.specs.Logs.{For-sheets}
 use Rattle.causality.proofs.Lists.{in-as}
 use Rattle.sheets.specs.Lists as sheet
 use Rattle.sheets.specs.Sheets.{Kind, Lawful, draw-up-outcome, drawn-up}
 use Rattle.sheets.proofs.Sheets.{converges}
-use Rattle.lives.specs.Keeps.{Agree, Same-letters}
+use Rattle.lives.specs.Keeps.{Agree}
 
 module _ {A : Type 0} where
   -- what stands in a list, in the words of the two crates

@@ -6,7 +6,7 @@ use native.Mathlib.Omega.{arith}
 use lib.ListN.{length, getD, take, set}
 use Rattle.std.proofs.shelf.Lists.{getD-set-same, take-set-le, length-set}
 use Rattle.lives.specs.declared.moves.Move.{Move}
-use Rattle.lives.specs.Traces.{Answer, Made, Trace, made, traced}
+use Rattle.lives.specs.Traces.{Answer, Trace, made, traced}
 use Rattle.lives.specs.Worked.{Leads, Moment, Step, Worked, further, nowhere}
 
 -- one way after another

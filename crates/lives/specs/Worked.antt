@@ -14,7 +14,7 @@ use Rattle.seats.specs.Rooms.{RoomState, start}
 use Rattle.seats.specs.Seats.{fresh}
 use Rattle.lives.specs.declared.moves.Move.{Move}
 use Rattle.lives.specs.declared.moves.Move.the-variants as moves
-use Rattle.lives.specs.Traces.{Answer, Made, Trace, dockets, does, made, shows, slip, takes}
+use Rattle.lives.specs.Traces.{Answer, Trace, dockets, does, made, shows, slip, takes}
 
 -- a room at one moment: what it holds, the two letter tables that are brought to it, and what its carrier means
 pub record Moment (B : Type 0) : Type 0 where
