@@ -1,25 +1,21 @@
 -- Two lists of the same letters, in the order that logs have, come to the same on every kind of sheet.
-use mathlib.Core.Bool.{Bool, true}
-use mathlib.Core.Path.{_≡_, sym, ap, subst, _∙_}
+use mathlib.Core.Path.{_≡_, sym, ap, _∙_}
 use mathlib.Core.List.{List, [], _∷_}
-use Prim.Native.Nat.{ℕ, _≤_}
+use Prim.Native.Nat.{_≤_}
 use native.Mathlib.Omega.{arith}
-use lib.Dec.{leb}
 use lib.ListN.{length}
-use Rattle.std.specs.declared.result.Result.{Result}
 use Rattle.std.specs.declared.result.Result.the-variants.{Ok}
 use Rattle.std.proofs.shelf.Ways.{tells}
 use Rattle.letters.specs.declared.letter.Letter.{Letter}
 use Rattle.letters.specs.Letters.{letter-name}
 use Rattle.letters.specs.Names.{Name}
 use Rattle.letters.specs.Order.{Same-letter}
-use Rattle.letters.specs.Refusals.{Reason, unless}
 use Rattle.letters.specs.Lists.{_∈_}
 use Rattle.causality.specs.Logs.{For-sheets}
 use Rattle.causality.proofs.Lists.{in-as}
 use Rattle.sheets.specs.Sheets.{Kind, Lawful, draw-up-outcome, drawn-up}
 use Rattle.sheets.proofs.Sheets.{converges}
-use Rattle.lives.specs.Keeps.{Agree, Same-letters}
+use Rattle.lives.specs.Keeps.{Agree}
 
 -- letters of one name are the same
 pub same-named : {B : Type 0} (m k : Letter B) → letter-name m ≡ letter-name k → Same-letter m k

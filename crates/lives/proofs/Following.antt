@@ -1,10 +1,9 @@
 -- What the calls and their callers may draw from the definitions and from the theorem.
-use mathlib.Core.Path.{_≡_, refl, sym, ap, _∙_}
+use mathlib.Core.Path.{_≡_, refl}
 use mathlib.Core.List.{List, [], _∷_}
 use mathlib.Core.Logic.{⊎-elim}
 use Prim.Native.Nat.{ℕ, _-_, _*_, _^_, _≤_, _<_, min}
 use native.Mathlib.Omega.{arith}
-use lib.Dec.{leb}
 use lib.ListN.{length}
 use Rattle.std.specs.declared.option.Option.the-variants.{None}
 use Rattle.std.specs.declared.result.Result.the-variants.{Ok}
@@ -19,14 +18,18 @@ use Rattle.seats.specs.Rooms.{RoomState, hold-of, seat-at}
 use Rattle.seats.specs.Seats.{clock-at}
 use Rattle.lives.specs.declared.moves.Move.{Move}
 use Rattle.lives.specs.Traces.{Answer, Trace}
-use Rattle.lives.specs.Worked.{Moment, Step, Works-on, further}
+use Rattle.lives.specs.Worked.{Moment, Opened, Step, Worked, Works-on, further, nowhere}
 use Rattle.lives.specs.Keeps.{Keeps, Same-letters, Settled, log-at}
 use Rattle.lives.proofs.Showing.{not-ready}
 use Rattle.lives.proofs.Splits.{none-passes}
 
+-- a room that was just opened is worked by no steps
+pub worked-first : {B : Type 0} (w : Moment B) → Opened w → Worked [] w
+worked-first w opens = record { first = w; opened = opens; led = nowhere }
+
 -- a step keeps the room worked
 pub works-on : {B : Type 0} (move : Move B) (w : Moment B) (answer : Answer) (w′ : Moment B) → Step move w answer w′ → Works-on move w answer w′
-works-on move w answer w′ step trace was = further was step
+works-on move w answer w′ step trace was = record { first = was .first; opened = was .opened; led = further (was .led) step }
 
 -- where a show finds nothing, nothing held is ready
 pub none-ready : {B : Type 0} (st : RoomState) (holds : List (Letter B)) (s : ℕ) → first-ready st holds s ≡ None → (m : Letter B) → m ∈ hold-of st holds s

@@ -1,19 +1,19 @@
 -- Each step of a room is a step of the run behind it, or leaves all as it was.
 use mathlib.Core.Bool.{Bool, true, false, cond}
-use mathlib.Core.Path.{_≡_, refl, sym, ap, subst, _∙_}
+use mathlib.Core.Path.{_≡_, refl, sym, ap, _∙_}
 use mathlib.Core.List.{List, [], _∷_}
 use Prim.Native.Nat.{ℕ, _+_, _-_, _^_, _≤_, _<_, min}
 use native.Mathlib.Omega.{arith}
-use lib.ListN.{length, getD, set}
+use lib.ListN.{length, getD}
 use Rattle.std.specs.declared.result.Result.{Result}
 use Rattle.std.specs.declared.result.Result.the-variants.{Ok, Err}
 use Rattle.std.proofs.shelf.Lists.{length-set}
 use Rattle.std.proofs.shelf.Ways.{tells}
 use Rattle.letters.specs.declared.letter.Letter.{Letter}
-use Rattle.letters.specs.Letters.{letter-name, number-of}
+use Rattle.letters.specs.Letters.{letter-name}
 use Rattle.letters.specs.Names.{Name, name}
 use Rattle.letters.specs.Refusals.{Reason}
-use Rattle.carriers.specs.Meaning.{Drawn, Meaning, put-answer}
+use Rattle.carriers.specs.Meaning.{Meaning, put-answer}
 use Rattle.causality.specs.declared.docket.DocketState.{DocketState}
 use Rattle.causality.specs.declared.docket.DocketState.the-variants.{Clear, Out, Parked}
 use Rattle.causality.specs.History.{posted, shown}
@@ -22,23 +22,22 @@ use Rattle.causality.specs.Runs as runs
 use Rattle.causality.specs.Steps as steps
 use Rattle.seats.specs.declared.seat.DocketEvent.{DocketEvent}
 use Rattle.seats.specs.declared.seat.DocketEvent.the-variants.{Send, Park, Collect}
-use Rattle.seats.specs.Outcomes.{Post-logs, Put-of, Slip, Take, Takes, Taking, stray, repeat, held, after, collect-answer, docket-room, is-repeat, is-stray, park-answer, post-answer, posted-room, put-letter, send-letter, show-answer, show-holds, show-logs, show-outcome, show-room, take-check, taken-holds, taken-room, taking}
+use Rattle.seats.specs.Outcomes.{Post-logs, Put-of, Slip, Take, Takes, Taking, stray, repeat, held, after, collect-answer, docket-room, park-answer, post-answer, posted-room, put-letter, send-letter, show-answer, show-holds, show-logs, show-outcome, show-room, take-check, taken-holds, taken-room, taking}
 use Rattle.seats.specs.Rooms.{RoomState, foot, seat-at, start, with-seat}
 use Rattle.seats.specs.Seats.{allows, docketed, moved}
 use Rattle.lives.specs.declared.moves.Move.{Move}
 use Rattle.lives.specs.declared.moves.Move.the-variants as moves
 use Rattle.lives.specs.Traces.{Answer, Trace, done, docket, dockets, does, events, happened, made, posting, postings, refused, showed, shows, slip, takes, with-step}
-use Rattle.lives.specs.Worked.{Moment, Step, Worked, moment, further, opened}
-use Rattle.lives.specs.Worked as worked
+use Rattle.lives.specs.Worked.{Leads, Moment, Step, Worked, further, moment, nowhere}
 use Rattle.lives.proofs.Clocks.{Fit, still-fit}
 use Rattle.lives.proofs.Lives.{Lives, arrives}
 use Rattle.lives.proofs.Opening.{begins}
 use Rattle.lives.proofs.Posting.{its-body, post-inside, post-number, post-poster, posted-kept, posts-step}
-use Rattle.lives.proofs.Sending.{Good, good, send-inside, sends-step, was-out}
+use Rattle.lives.proofs.Sending.{good, send-inside, sends-step, was-out}
 use Rattle.lives.proofs.Showing.{show-holds-long, show-inside, show-logs-long, shown-kept, shown-moment, shows-step}
 use Rattle.lives.proofs.Splits.{Nth, nth-at}
-use Rattle.lives.proofs.Taking.{Takeable, a-repeat, a-stray, fine, held-moment, held-step, holding-kept, no-stray, takeable, thrown-step}
-use Rattle.lives.proofs.Views.{box-of, docket-moment, docket-moves, docketed-kept, view}
+use Rattle.lives.proofs.Taking.{a-repeat, a-stray, fine, held-moment, held-step, holding-kept, no-stray, takeable, thrown-step}
+use Rattle.lives.proofs.Views.{docket-moment, docket-moves, docketed-kept, view}
 
 -- a moment by its parts
 module _ {B : Type 0} where
@@ -254,7 +253,10 @@ module _ {B : Type 0} (trace : Trace B) (w w′ : Moment B) (lives : Lives trace
   goes-on (moves.Take s place) p = took-on s place _ refl (p .result) (p .answers) (p .leaves) (p .logs)
   goes-on (moves.Show s) p = shown-on s _ refl (p .answers) (p .room) (p .logs) (p .holds) (p .carrier)
 
+leads-on : {B : Type 0} {w : Moment B} → Lives [] w → {trace : Trace B} {w′ : Moment B} → Leads w trace w′ → Lives trace w′
+leads-on life nowhere = life
+leads-on life (further {trace} {w} {w′} {move} {answer} led step) = goes-on trace w w′ (leads-on life led) answer move step
+
 -- every room that was worked has a run behind it
 pub lives : {B : Type 0} {trace : Trace B} {w : Moment B} → Worked trace w → Lives trace w
-lives (opened {w} o) = begins w o
-lives (further {trace} {w} {w′} {move} {answer} was step) = goes-on trace w w′ (lives was) answer move step
+lives was = leads-on (begins (was .first) (was .opened)) (was .led)

@@ -13,7 +13,7 @@ use Rattle.causality.specs.declared.docket.DocketState.the-variants.{Clear}
 use Rattle.causality.specs.History.{Event, History, Led-to, Seen, posted, posted-letters, shown, told}
 use Rattle.letters.specs.Lists.{_∈_, here, there}
 use Rattle.causality.specs.Theorems as theorems
-use Rattle.causality.specs.Worlds.{Box, World}
+use Rattle.causality.specs.Worlds.{Box}
 use Rattle.causality.proofs.Lists.{in-as, in-eq, in-none}
 use Rattle.causality.proofs.Named.{seen-told}
 use Rattle.causality.proofs.Theorems.{causal-order, complete-delivery, order-for-sheets}
@@ -21,8 +21,8 @@ use Rattle.sheets.specs.Sheets.{Kind, Lawful}
 use Rattle.seats.specs.Rooms.{RoomState, seat-at, start}
 use Rattle.seats.specs.Seats.{log-length}
 use Rattle.lives.specs.Traces.{Posting, Trace, events, posting, postings}
-use Rattle.lives.specs.Worked.{Moment, Worked}
-use Rattle.lives.specs.Keeps.{Agree, Always-keeps, Carries, Complete, Genuine, In-order, Keeps, Settled, hold-at, log-at}
+use Rattle.lives.specs.Worked.{Moment}
+use Rattle.lives.specs.Keeps.{Agree, Always-keeps, Complete, Genuine, In-order, Keeps, Settled, hold-at, log-at}
 use Rattle.lives.proofs.Agreeing.{agree}
 use Rattle.lives.proofs.Clocks.{log-fits, row-end}
 use Rattle.lives.proofs.Cut.{cut-in, cut-one}

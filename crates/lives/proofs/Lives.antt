@@ -1,7 +1,7 @@
 -- A room that was worked has a run of boxes behind it.
 use mathlib.Core.Path.{_≡_, sym, subst}
-use mathlib.Core.List.{List, _∷_, map}
-use Prim.Native.Nat.{ℕ, _≤_}
+use mathlib.Core.List.{_∷_, map}
+use Prim.Native.Nat.{_≤_}
 use lib.ListN.{length}
 use Rattle.letters.specs.declared.letter.Letter.{Letter}
 use Rattle.letters.specs.Letters.{letter-name}

@@ -1,12 +1,11 @@
 -- What a write to a table leaves of each part of it.
-use mathlib.Core.Path.{_≡_, refl, sym, ap, subst, _∙_}
+use mathlib.Core.Path.{_≡_, sym, ap, _∙_}
 use mathlib.Core.List.{List, [], _∷_, _++_}
 use mathlib.Core.Logic.{_⊎_, inl, inr, ⊎-elim}
 use Prim.Native.Nat.{ℕ, zero, suc, _+_, _-_, _*_, _≤_, _<_}
 use native.Mathlib.Nat.{suc-mul, mul-le-mul-right}
 use native.Mathlib.Omega.{arith}
 use lib.ListN.{length, getD, set, take, drop}
-use lib.Seq.{paste}
 use Rattle.std.specs.Holes.{removed}
 use Rattle.std.proofs.shelf.Lists.{drop-set-add, drop-set-lt, take-set-le, take-more-set, length-drop, length-take-le, getD-take, getD-drop, getD-append-left, getD-append-right, same-lists}
 use Rattle.std.proofs.shelf.Edits.{length-paste, take-paste, drop-paste, length-removed, getD-removed-below, getD-removed-above}

@@ -4,7 +4,7 @@ use mathlib.Core.Path.{_≡_, refl, sym, ap, _∙_}
 use mathlib.Core.List.{List, [], _∷_, _++_}
 use Prim.Native.Nat.{ℕ, _+_, _*_, _≤_, _<_}
 use native.Mathlib.Omega.{arith}
-use lib.ListN.{length, set, take, drop}
+use lib.ListN.{length, take, drop}
 use Rattle.std.specs.declared.result.Result.the-variants.{Ok}
 use Rattle.std.proofs.shelf.Lists.{getD-set-other}
 use Rattle.std.proofs.shelf.Ways.{tells}
@@ -17,7 +17,7 @@ use Rattle.causality.specs.Steps.{Posts}
 use Rattle.seats.specs.declared.seat.Seat.{Seat}
 use Rattle.seats.specs.declared.seat.DocketEvent.the-variants.{Post}
 use Rattle.seats.specs.Outcomes.{Posted, Slip, post-answer, posted-room, posted-seat, slip-of}
-use Rattle.seats.specs.Rooms.{RoomState, foot, log-of, seat-at, start, with-seat}
+use Rattle.seats.specs.Rooms.{RoomState, log-of, seat-at, start, with-seat}
 use Rattle.seats.specs.Seats.{allows, clock-at, docketed, log-length, moved}
 use Rattle.lives.specs.Worked.{Moment, moment}
 use Rattle.lives.proofs.Clocks.{Fit, Kept, clocked-kept, clocked-own, log-gains, log-short, log-stays, one-longer, told-seat}

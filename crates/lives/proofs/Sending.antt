@@ -18,7 +18,6 @@ use Rattle.carriers.specs.Meaning.{Meaning, Put-on}
 use Rattle.carriers.specs.Putting.{Gains}
 use Rattle.causality.specs.declared.docket.DocketState.{DocketState}
 use Rattle.causality.specs.declared.docket.DocketState.the-variants.{Clear, Out, Parked}
-use Rattle.letters.specs.Lists.{_∈_}
 use Rattle.causality.specs.Worlds.{Box}
 use Rattle.causality.specs.Steps.{Sends}
 use Rattle.seats.specs.declared.seat.DocketEvent.the-variants.{Send}

@@ -12,7 +12,7 @@ use Rattle.std.specs.declared.option.Option.the-variants.{Some, None}
 use Rattle.std.proofs.shelf.Lists.{getD-set-other, length-set}
 use Rattle.std.proofs.shelf.Ways.{tells}
 use Rattle.letters.specs.declared.letter.Letter.{Letter}
-use Rattle.letters.specs.Letters.{entry-at, number-of}
+use Rattle.letters.specs.Letters.{number-of}
 use Rattle.letters.specs.Order.{Ready, ready}
 use Rattle.letters.specs.Refusals.{Reason}
 use Rattle.letters.proofs.Readiness.{decides-ready}
@@ -20,7 +20,7 @@ use Rattle.causality.specs.Worlds.{Box}
 use Rattle.causality.specs.Steps.{Shows}
 use Rattle.seats.specs.declared.seat.Seat.{Seat}
 use Rattle.seats.specs.Outcomes.{first-ready, follows, or-none-ready, seat-check, show-holds, show-logs, show-outcome, shown-seat}
-use Rattle.seats.specs.Rooms.{RoomState, foot, hold-of, log-of, seat-at, start, with-seat}
+use Rattle.seats.specs.Rooms.{RoomState, foot, hold-of, seat-at, start, with-seat}
 use Rattle.seats.specs.Seats.{clock-at, clocked, log-length}
 use Rattle.lives.specs.Worked.{Moment, moment}
 use Rattle.lives.proofs.Clocks.{Fit, Kept, clocked-kept, clocked-own, hold-loses, hold-stays, log-gains, log-short, log-stays, one-longer, row-end, told-seat}

@@ -1,6 +1,6 @@
 -- An accepted take is a step of a run.
 use mathlib.Core.Bool.{true, false}
-use mathlib.Core.Path.{_≡_, refl, sym, ap, subst, _∙_}
+use mathlib.Core.Path.{_≡_, refl, sym, ap, _∙_}
 use mathlib.Core.List.{List, [], _∷_, _++_}
 use mathlib.Core.Logic.{inl, inr}
 use Prim.Native.Nat.{ℕ, suc, _+_, _*_, _≤_, _<_}
@@ -24,15 +24,14 @@ use Rattle.causality.specs.Steps as outcome
 use Rattle.causality.proofs.Lists.{in-eq, in-middle}
 use Rattle.seats.specs.declared.seat.Seat.{Seat}
 use Rattle.seats.specs.Outcomes.{first, is-called, is-repeat, is-some, is-stray, take-check}
-use Rattle.seats.specs.Outcomes as calls
-use Rattle.seats.specs.Rooms.{RoomState, hold-of, log-of, seat-at, start, with-seat}
+use Rattle.seats.specs.Rooms.{RoomState, hold-of, seat-at, start, with-seat}
 use Rattle.seats.specs.Seats.{clock-at, holding, log-length}
 use Rattle.lives.specs.Worked.{Moment, moment}
 use Rattle.lives.proofs.Clocks.{Fit, Kept, other-seat, row-end, told-seat}
 use Rattle.lives.proofs.Cut.{cut-one, cut-same}
 use Rattle.lives.proofs.Parts.{length-part, part-push, part-set-out, rows-apart}
 use Rattle.lives.proofs.Sending.{called}
-use Rattle.lives.proofs.Splits.{First, Nth, first-at, none-passes, nth-at}
+use Rattle.lives.proofs.Splits.{Nth, first-at, none-passes}
 use Rattle.lives.proofs.Views.{at-seat, box-of, elsewhere, log-else, view}
 
 -- what a check that says yes has tested

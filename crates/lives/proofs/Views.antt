@@ -1,8 +1,8 @@
 -- A room with its tables and its carrier as a world of boxes, and how that changes when one seat is told something.
 use mathlib.Core.Bool.{cond}
-use mathlib.Core.Path.{_≡_, refl, sym, ap, _∙_}
+use mathlib.Core.Path.{_≡_, ap, _∙_}
 use mathlib.Core.List.{List, []}
-use Prim.Native.Nat.{ℕ, _*_, _<_}
+use Prim.Native.Nat.{ℕ, _<_}
 use lib.Dec.{ltb}
 use lib.ListN.{take, drop}
 use Rattle.letters.specs.declared.letter.Letter.{Letter}
@@ -13,7 +13,7 @@ use Rattle.causality.specs.Worlds.{Box, World, Elsewhere}
 use Rattle.causality.specs.Steps.{Moves-docket}
 use Rattle.seats.specs.declared.seat.Seat.{Seat}
 use Rattle.seats.specs.declared.seat.DocketEvent.{DocketEvent}
-use Rattle.seats.specs.Rooms.{RoomState, hold-of, log-of, seat-at, start, with-seat}
+use Rattle.seats.specs.Rooms.{hold-of, log-of, seat-at, start, with-seat}
 use Rattle.seats.specs.Seats.{clock-at, docketed, log-length, moved}
 use Rattle.lives.specs.Worked.{Moment, moment}
 use Rattle.lives.proofs.Clocks.{Fit, Kept, other-seat, told-seat}

@@ -14,7 +14,7 @@ use Rattle.seats.specs.Rooms.{RoomState, start}
 use Rattle.seats.specs.Seats.{fresh}
 use Rattle.lives.specs.declared.moves.Move.{Move}
 use Rattle.lives.specs.declared.moves.Move.the-variants as moves
-use Rattle.lives.specs.Traces.{Answer, Made, Trace, dockets, does, made, shows, slip, takes}
+use Rattle.lives.specs.Traces.{Answer, Trace, dockets, does, made, shows, slip, takes}
 
 -- a room at one moment: what it holds, the two letter tables that are brought to it, and what its carrier means
 pub record Moment (B : Type 0) : Type 0 where
@@ -115,11 +115,17 @@ module _ {B : Type 0} where
   Step (moves.Take s place) w answer w′ = Take-step s place w answer w′
   Step (moves.Show s) w answer w′ = Show-step s w answer w′
 
-  -- A room was opened and then made the steps of the trace with these answers, each finding all as the one before it left it.
-  pub data Worked : Trace B → Moment B → Type 0 where
-    opened : {w : Moment B} → Opened w → Worked [] w
-    further : {trace : Trace B} {w w′ : Moment B} {move : Move B} {answer : Answer} → Worked trace w → Step move w answer w′
-        → Worked (made move answer ∷ trace) w′
+  -- The steps of the trace, with these answers, led from one moment to the other, each finding all as the one before it left it.
+  pub data Leads (from : Moment B) : Trace B → Moment B → Type 0 where
+    nowhere : Leads from [] from
+    further : {trace : Trace B} {w w′ : Moment B} {move : Move B} {answer : Answer} → Leads from trace w → Step move w answer w′
+        → Leads from (made move answer ∷ trace) w′
+
+  -- A room was opened and then made the steps of the trace with these answers.
+  pub record Worked (trace : Trace B) (w : Moment B) : Type 0 where
+    pub first : Moment B
+    pub opened : Opened first
+    pub led : Leads first trace w
 
   -- by whatever trace the room was worked before, after this step it is worked by that trace and this step
   abbrev pub Works-on : Move B → Moment B → Answer → Moment B → Type 0
