@@ -8,3 +8,5 @@ pub mod Forms
 pub mod Characters
 pub mod Texts
 pub mod Jobs
+pub mod Lists
+pub mod Logs

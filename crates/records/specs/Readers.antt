@@ -1,4 +1,5 @@
 -- A file of records, read one after another.
+use mathlib.Core.Path.{_≡_}
 use mathlib.Core.Bool.{cond}
 use mathlib.Core.List.{List, [], _∷_}
 use Prim.Native.Nat.{ℕ, _+_, _*_}
@@ -13,6 +14,7 @@ use Rattle.letters.specs.Letters.{Parts}
 use Rattle.letters.specs.Refusals.{Reason}
 use Rattle.records.specs.declared.fault.Fault.{Fault}
 use Rattle.records.specs.declared.reader.Reader.{Reader}
+use Rattle.records.specs.Reading.{Undoes}
 use Rattle.records.specs.Records.{parts-written, record-size, wrong-front}
 
 -- a bad record: number 20, with the record's index and its first wrong byte
@@ -69,3 +71,12 @@ abbrev pub next-parts : {B : Type 0} → Form B → List ℕ → Parts B → Fou
 next-parts form bs old at-end = old
 next-parts form bs old right = parts-written form (take record-size bs)
 next-parts form bs old (wrong byte) = old
+
+-- what one read of a reader does: its answer, where it stands then, that it keeps its bytes, the parts that it leaves, and
+-- that it undoes writing
+pub record Next-read {B : Type 0} (form : Form B) (before after : Reader B) (old new : Parts B) (r : Result (Option ℕ) Fault) : Type 0 where
+  pub answer : told-fault r ≡ next-answer (before .index) (found form (ahead before))
+  pub moved : after .index ≡ next-index (before .index) (found form (ahead before))
+  pub lent : after .bytes ≡ before .bytes
+  pub filled : new ≡ next-parts form (ahead before) old (found form (ahead before))
+  pub undoes : Undoes form (ahead before) (r ≡ Ok (Some (before .index))) new

@@ -37,3 +37,9 @@ module _ {B : Type 0} (form : Form B) where
   pub record Undoes (bs : List ℕ) (accepted : Type 0) (read : Parts B) : Type 0 where
     pub known : (m : Letter B) → Begins bs (parts-of m) → accepted × (read ≡ parts-of m)
     pub only : accepted → (m : Letter B) × (read ≡ parts-of m) × Begins bs (parts-of m)
+
+  -- what reading the record at the front of some bytes does: its answer, the parts that it leaves, and that it undoes writing
+  pub record Record-read (bs : List ℕ) (old new : Parts B) (r : Result (Unit {0}) ℕ) : Type 0 where
+    pub answer : r ≡ read-answer (wrong-front form bs)
+    pub filled : new ≡ parts-left bs (wrong-front form bs) old
+    pub undoes : Undoes bs (r ≡ Ok tt) new

@@ -5,9 +5,8 @@ ghost use Prim.Native.Nat.{_≤_};
 ghost use lib.ListN.{drop, length};
 ghost use Rattle.letters.specs.Checks.{first-failing};
 ghost use Rattle.std.specs.declared.option.Option.the-variants.{None};
-ghost use Rattle.std.specs.declared.result.Result.the-variants.{Ok};
 ghost use Rattle.letters.specs.Letters.{parts};
-ghost use Rattle.records.specs.Reading.{Left-by, Undoes, parts-left, read-answer};
+ghost use Rattle.records.specs.Reading.{Left-by, Record-read, read-answer};
 ghost use Rattle.records.specs.Records.{body-part, is-zero, kind-byte, record-of, wrong-byte, wrong-front, wrong-header};
 use crate::bytes::number_at;
 use crate::bytes::put;
@@ -47,9 +46,18 @@ pub fn read_record<B: Body>(
     poster: &mut u8,
     body: &mut B,
 ) -> Result<(), u8>
-    ensures answer { λ r. ⌜ r ≡ read-answer (wrong-front form (now (bytes .entry))) ⌝ }
-    ensures filled { λ _. ⌜ parts (now (stamp .exit)) (now (poster .exit)) (now (body .exit)) ≡ parts-left form (now (bytes .entry)) (wrong-front form (now (bytes .entry))) (parts (now (stamp .entry)) (now (poster .entry)) (now (body .entry))) ⌝ }
-    ensures undoes { λ r. ⌜ Undoes form (now (bytes .entry)) (r ≡ Ok tt) (parts (now (stamp .exit)) (now (poster .exit)) (now (body .exit))) ⌝ }
+    ensures { λ r. ⌜ Record-read form (now (bytes .entry)) (parts (now (stamp .entry)) (now (poster .entry)) (now (body .entry))) (parts (now (stamp .exit)) (now (poster .exit)) (now (body .exit))) r ⌝ }
+{
+    read_front(bytes, stamp, poster, body)
+}
+
+fn read_front<B: Body>(
+    bytes: &[u8],
+    stamp: &mut Stamp,
+    poster: &mut u8,
+    body: &mut B,
+) -> Result<(), u8>
+    ensures { λ r. ⌜ Record-read form (now (bytes .entry)) (parts (now (stamp .entry)) (now (poster .entry)) (now (body .entry))) (parts (now (stamp .exit)) (now (poster .exit)) (now (body .exit))) r ⌝ }
 {
     if bytes.len() < RECORD_SIZE {
         return Err(bytes.len() as u8);

@@ -1,10 +1,7 @@
 // What a reader of records does.
 ghost use mathlib.Core.Path.{_≡_};
-ghost use Rattle.std.specs.declared.option.Option.the-variants.{Some};
-ghost use Rattle.std.specs.declared.result.Result.the-variants.{Ok};
 ghost use Rattle.letters.specs.Letters.{parts};
-ghost use Rattle.records.specs.Reading.{Undoes};
-ghost use Rattle.records.specs.Readers.{ahead, found, next-answer, next-index, next-parts, told-fault};
+ghost use Rattle.records.specs.Readers.{Next-read};
 use crate::fault::Fault;
 use crate::reader::Reader;
 use crate::record::RECORD_SIZE;
@@ -33,11 +30,18 @@ impl<'a, B: Body> Reader<'a, B> {
         poster: &mut u8,
         body: &mut B,
     ) -> Result<Option<usize>, Fault>
-        ensures answer { λ r. ⌜ told-fault r ≡ next-answer (now (self .entry) .index) (found form (ahead (now (self .entry)))) ⌝ }
-        ensures moved { λ _. ⌜ now (self .exit) .index ≡ next-index (now (self .entry) .index) (found form (ahead (now (self .entry)))) ⌝ }
-        ensures lent { λ _. ⌜ now (self .exit) .bytes ≡ now (self .entry) .bytes ⌝ }
-        ensures filled { λ _. ⌜ parts (now (stamp .exit)) (now (poster .exit)) (now (body .exit)) ≡ next-parts form (ahead (now (self .entry))) (parts (now (stamp .entry)) (now (poster .entry)) (now (body .entry))) (found form (ahead (now (self .entry)))) ⌝ }
-        ensures undoes { λ r. ⌜ Undoes form (ahead (now (self .entry))) (r ≡ Ok (Some (now (self .entry) .index))) (parts (now (stamp .exit)) (now (poster .exit)) (now (body .exit))) ⌝ }
+        ensures { λ r. ⌜ Next-read form (now (self .entry)) (now (self .exit)) (parts (now (stamp .entry)) (now (poster .entry)) (now (body .entry))) (parts (now (stamp .exit)) (now (poster .exit)) (now (body .exit))) r ⌝ }
+    {
+        self.read_next(stamp, poster, body)
+    }
+
+    fn read_next(
+        &mut self,
+        stamp: &mut Stamp,
+        poster: &mut u8,
+        body: &mut B,
+    ) -> Result<Option<usize>, Fault>
+        ensures { λ r. ⌜ Next-read form (now (self .entry)) (now (self .exit)) (parts (now (stamp .entry)) (now (poster .entry)) (now (body .entry))) (parts (now (stamp .exit)) (now (poster .exit)) (now (body .exit))) r ⌝ }
     {
         let at = RECORD_SIZE * self.index;
         let index = self.index;

@@ -1,0 +1,15 @@
+pub mod Lists
+pub mod Counting
+pub mod Puts
+pub mod Named
+pub mod Steps
+pub mod Logs
+pub mod Books
+pub mod Holds
+pub mod Always
+pub mod Delivery
+pub mod Settling
+pub mod Theorems
+pub mod Telling
+pub mod Making
+pub mod Sample
