@@ -17,7 +17,7 @@ arrivals-again g c =
     let stamped = c .entry-stamped .ensures ∙ ap (λ s. entry-at s (c .loop-other .other)) (c .stamp .ensures) in
     first-on _ (c .args .hold .now) (c .arrivals .at) _ (c .arrivals .inv) m (c .arrivals-test .taken) (c .index-hold-at .is)
     (too-early (c .args .count) (c .args .quota) (c .args .seat) (c .args .clock .now) m (c .loop-other .other)
-    (λ e. c .if-other-poster .taken (e ∙ sym (c .poster-poster .ensures))) (omega (arith, stamped, c .entry-shown .ensures, c .if-stamped-shown .taken)))
+    (λ e. omega (arith, e, c .poster-poster .ensures, c .if-other-poster .taken)) (omega (arith, stamped, c .entry-shown .ensures, c .if-stamped-shown .taken)))
 
 pub returns-in-arrivals : need.returns-in-arrivals
 returns-in-arrivals g c =
