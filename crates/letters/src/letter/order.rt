@@ -60,6 +60,13 @@ impl<B: Copy> Letter<B> {
         ensures answer { λ r. ⌜ r ≡ ready n q seat (now (clock .entry)) (now (self .entry)) ⌝ }
         ensures decides { λ r. ⌜ Decides r (Ready n q seat (entry-at (now (clock .entry))) (now (self .entry))) ⌝ }
     {
+        self.is_shown_next(n, q, seat, clock)
+    }
+
+    fn is_shown_next(&self, n: u8, q: u16, seat: u8, clock: &Stamp) -> bool
+        ensures answer { λ r. ⌜ r ≡ ready n q seat (now (clock .entry)) (now (self .entry)) ⌝ }
+        ensures decides { λ r. ⌜ Decides r (Ready n q seat (entry-at (now (clock .entry))) (now (self .entry))) ⌝ }
+    {
         self.passes(n, q, seat, clock)
     }
 

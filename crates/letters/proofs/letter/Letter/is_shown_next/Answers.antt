@@ -2,7 +2,7 @@ use mathlib.Core.Path.{_≡_}
 use Rattle.std.proofs.shelf.Ways.{decides-at}
 use Rattle.letters.specs.Order.{ready}
 use Rattle.letters.proofs.Readiness.{decides-ready}
-use Rattle.letters.proofs.letter.Letter.is_ready.Needs as need
+use Rattle.letters.proofs.letter.Letter.is_shown_next.Needs as need
 
 pub returns : need.returns
 returns g c =
