@@ -20,5 +20,6 @@ module _ (xs : List ℕ) (n i : ℕ) (r : Bool) (so-far : has (drop i xs) n ≡ 
   pub has-found : getD xs i 0 ≡ n → true ≡ r
   has-found same = sym (ap (λ b. b || has (drop (i + 1) xs) n) (eq-eqb _ _ same)) ∙ seen
 
+-- the end of the search
 pub has-none : (xs : List ℕ) (n i : ℕ) (r : Bool) → has (drop i xs) n ≡ r → length xs ≤ i → false ≡ r
 has-none xs n i r so-far past = sym (at-drop-all (λ l. has l n) xs i past) ∙ so-far

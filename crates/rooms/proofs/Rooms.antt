@@ -9,6 +9,7 @@ use Rattle.seats.specs.Seats.{blank, fresh}
 use Rattle.rooms.specs.declared.room.Room.{Room}
 use Rattle.rooms.specs.States.{state}
 
+-- the facts of an open room, of its state
 pub sound : (r : Room) → Sound (state r)
 sound r = record {
   some = r .some;
@@ -22,11 +23,13 @@ sound r = record {
   placed = r .placed;
 }
 
+-- what holds of an element, and of the default, holds throughout a table of it
 pub replicate-each : {X : Type 0} (P : X → Type 0) (n : ℕ) (x d : X) → P x → P d → (t : ℕ) → P (getD (replicate n x) t d)
 replicate-each P zero x d px pd t = pd
 replicate-each P (suc n) x d px pd zero = px
 replicate-each P (suc n) x d px pd (suc t) = replicate-each P n x d px pd t
 
+-- what a room keeps to holds where nothing has happened
 pub fresh-whole : (s : ℕ) → s < 16 → length (getD (replicate 16 fresh) s blank .clock .entries) ≡ 16
 fresh-whole s h = ap (λ x. length (x .clock .entries)) (getD-replicate 16 s fresh blank h)
 

@@ -21,6 +21,7 @@ pub record DraftState : Type 0 where
   pub names : List ℕ
   pub count : ℕ
 
+-- what a draft holds
 abbrev pub draft-state : Draft → DraftState
 draft-state d = record { number = d .number; quota = d .quota; names = d .names; count = d .count }
 

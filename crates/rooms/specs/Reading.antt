@@ -33,5 +33,6 @@ all-clear st = each-below (λ s. allows (seat-at st s .docket) Post) (st .count)
 abbrev pub close-check : RoomState → Result (Unit {0}) Reason
 close-check st = unless (all-clear st) 16 (Ok tt)
 
+-- what a closed room holds: the room as it closed
 abbrev pub closed-state : ClosedRoom → RoomState
 closed-state c = state (c .room)

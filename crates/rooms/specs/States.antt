@@ -10,9 +10,11 @@ use Rattle.rooms.specs.declared.docket.Docket.{Docket}
 use Rattle.rooms.specs.declared.docket.Returned.{Returned}
 use Rattle.rooms.specs.declared.room.Room.{Room}
 
+-- what an open room holds
 abbrev pub state : Room → RoomState
 state r = record { number = r .number; names = r .names; count = r .count; quota = r .quota; seats = r .seats }
 
+-- the three numbers of a docket
 abbrev pub slip : Docket → Slip
 slip d = record { room = d .room; seat = d .seat; number = d .number }
 

@@ -26,6 +26,7 @@ pub record Visited (st : RoomState) (logs holds s : ℕ) : Type 0 where
   pub logs-long : start st (st .count) ≤ logs
   pub holds-long : start st (st .count) ≤ holds
 
+-- an accepted check of a seat
 pub visited : (st : RoomState) (logs holds s : ℕ) → Ok tt ≡ seat-check st logs holds s → Visited st logs holds s
 visited st logs holds s can = record { inside = grind (arith, tells); logs-long = grind (arith, tells); holds-long = grind (arith, tells) }
 
@@ -36,6 +37,7 @@ pub record Postable (st : RoomState) (logs s : ℕ) : Type 0 where
   pub clear : allows (seat-at st s .docket) Post ≡ true
   pub left : clock-at (seat-at st s) s < st .quota
 
+-- an accepted check of a post
 pub postable : (st : RoomState) (logs holds s : ℕ) → Ok tt ≡ post-check st logs holds s → Postable st logs s
 postable st logs holds s can = record { long = grind (arith, tells); inside = grind (arith, tells); clear = grind (arith, tells); left = grind (arith, tells) }
 
@@ -49,12 +51,15 @@ pub record Served (st : RoomState) (logs holds seats : ℕ) : Type 0 where
   pub holds-long : start st (st .count) ≤ holds
   pub seats-same : seats ≡ st .count
 
+-- an accepted check of tables and carrier
 pub served : (st : RoomState) (logs holds seats : ℕ) → Ok tt ≡ carrier-check st logs holds seats → Served st logs holds seats
 served st logs holds seats can = record { logs-long = grind (arith, tells); holds-long = grind (arith, tells); seats-same = grind (arith, tells) }
 
+-- a good docket is of a seat of the room
 pub slip-seat : (st : RoomState) (d : Slip) → true ≡ good-slip st d → d .seat < st .count
 slip-seat st d good = grind (arith, tells)
 
+-- a letter is drawn at a seat of the carrier
 pub drawn-seat : {L : Type 0} (c : Meaning L) (s place : ℕ) → Ok tt ≡ draw-answer c s place → s < c .seats
 drawn-seat c s place drawn = grind (arith, tells)
 
@@ -62,6 +67,7 @@ drawn-seat c s place drawn = grind (arith, tells)
 pub free-place : {B : Type 0} (st : RoomState) (holds : List (Letter B)) (s : ℕ) (m : Letter B) → held ≡ taking st holds s m → seat-at st s .held < st .count * st .quota
 free-place st holds s m kept = grind (arith, tells)
 
+-- the end of a hold with a place left lies within the table
 pub hold-place : (st : RoomState) (s : ℕ) → s < st .count → seat-at st s .held < st .count * st .quota → start st s + seat-at st s .held < start st (st .count)
 hold-place st s inside free = omega (arith, mul-add-lt s (st .count * st .quota) (seat-at st s .held) (st .count) inside free)
 
@@ -74,6 +80,7 @@ pub record Showable (st : RoomState) (logs holds s k : ℕ) {B : Type 0} (m : Le
   pub log-place : foot st s < logs
   pub hold-end : start st s + seat-at st s .held ≤ holds
 
+-- an accepted show
 pub showable : {B : Type 0} (st : RoomState) (ok : Sound st) (logs s k : ℕ) (holds : List (Letter B)) (m : Letter B) → Ok tt ≡ seat-check st logs (length holds) s → Some (k, m) ≡ first-ready st holds s → Showable st logs (length holds) s k m
 showable st ok logs s k holds m can e =
     let seat = seat-at st s in
@@ -93,6 +100,7 @@ showable st ok logs s k holds m can e =
       hold-end = omega (arith, at .holds-long, row-end st ok s (seat .held) (at .inside) (ok .placed s));
     }
 
+-- a seat that showed a letter is kept
 pub shown-kept : {B : Type 0} (st : RoomState) (ok : Sound st) (s : ℕ) (m : Letter B) → s < st .count → m .poster < st .count → number-of m ≤ st .quota → Kept (st .count) (st .quota) (shown-seat (seat-at st s) m)
 shown-kept st ok s m inside poster few =
     let seat = seat-kept st ok s (omega (arith, ok .few)) in

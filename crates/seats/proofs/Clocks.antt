@@ -30,6 +30,7 @@ sum-le (x ∷ xs) (suc n) q most none =
     let both = sumBy-cons (λ y. y) x xs in
     omega (arith, suc-mul n q)
 
+-- each seat of a sound room is kept
 pub seat-kept : (st : RoomState) (ok : Sound st) (s : ℕ) → s < 16 → Kept (st .count) (st .quota) (seat-at st s)
 seat-kept st ok s lt = record { whole = ok .whole s lt; within = ok .within s; nobody = ok .nobody s; placed = ok .placed s }
 

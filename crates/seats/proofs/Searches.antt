@@ -36,6 +36,7 @@ abbrev inside : {X : Type 0} → Option X → X → X
 inside (Some x) d = x
 inside None d = d
 
+-- a search that finds
 pub found : {X : Type 0} (f : X → Bool) (i : ℕ) (xs : List X) (k : ℕ) (x : X) → first f i xs ≡ Some (k, x) → Found f i xs k x
 found f i [] k x e = let z : _≡_ {A = ℕ} 0 1 = cc in absurd (omega arith)
 found {X} f i (y ∷ ys) k x e =

@@ -13,7 +13,7 @@ use Rattle.std.proofs.shelf.Lists.{drop-all, drop-set-add, drop-set-lt, take-al
 use Rattle.std.proofs.shelf.Tests.{cases-lt}
 use Rattle.seats.specs.Rooms.{closed}
 
--- the same, of the first k elements
+-- what holds of the first k elements, and of the new one, holds of the first k after the write
 pub set-each-below : {X : Type 0} (P : X → Type 0) (d : X) (k : ℕ) (xs : List X) (i : ℕ) (x : X) → P x → ((t : ℕ) → t < k → P (getD xs t d)) → (t : ℕ) → t < k → P (getD (set xs i x) t d)
 set-each-below P d k [] i x new old t lt = old t lt
 set-each-below P d k (y ∷ ys) zero x new old zero lt = new
@@ -50,10 +50,12 @@ closed-more xs ys at i x lt so-far is =
 abbrev pub part : {X : Type 0} → ℕ → ℕ → List X → List X
 part a n xs = take n (drop a xs)
 
+-- a write behind a part makes it longer by one
 pub part-push : {X : Type 0} (xs : List X) (a n : ℕ) (y : X) → a + n < length xs → part a (n + 1) (set xs (a + n) y) ≡ part a n xs ++ y ∷ []
 part-push xs a n y lt =
     ap (take (n + 1)) (drop-set-add a xs n y) ∙ take-more-set (drop a xs) n y (omega (arith, length-drop a xs))
 
+-- a write outside a part leaves it
 pub part-set-out : {X : Type 0} (xs : List X) (a n k : ℕ) (y : X) → (k < a) ⊎ (a + n ≤ k) → part a n (set xs k y) ≡ part a n xs
 part-set-out xs a n k y out =
     ⊎-elim
@@ -102,12 +104,15 @@ module _ {X : Type 0} (xs : List X) (at n : ℕ) (fits : at + n < length xs) (i 
       ∙ getD-drop (at + n) xs (i - (at + n)) d
       ∙ ap (λ k. getD xs k d) there
 
+-- closing up keeps the length of the table
 pub length-closed : {X : Type 0} (xs : List X) (at n : ℕ) → at + n < length xs → length (closed xs at n) ≡ length xs
 length-closed xs at n fits = length-paste xs at (drop (at + 1) xs) n (omega arith) (omega (arith, length-drop (at + 1) xs))
 
+-- a part within the table is as long as asked
 pub length-part : {X : Type 0} (xs : List X) (a n : ℕ) → a + n ≤ length xs → length (part a n xs) ≡ n
 length-part xs a n fits = length-take-le n (drop a xs) (omega (arith, length-drop a xs))
 
+-- an element of a part
 pub getD-part : {X : Type 0} (xs : List X) (a n i : ℕ) (d : X) → i < n → getD (part a n xs) i d ≡ getD xs (a + i) d
 getD-part xs a n i d lt = getD-take n (drop a xs) i d lt ∙ getD-drop a xs i d
 
@@ -144,10 +149,11 @@ part-closed-out xs at n b m fits inside out =
     ∙ ⊎-elim (λ before. closed-before xs at n fits (b + i) d (omega arith)) (λ after. closed-after xs at n fits (b + i) d (omega arith)) out
     ∙ sym (getD-part xs b m i d lt))
 
--- a part past the end of a table, and one that goes as far as the table
+-- a part past the end of a table is empty
 pub no-part : {X : Type 0} (xs : List X) (a n : ℕ) → length xs ≤ a → [] ≡ part a n xs
 no-part xs a n past = sym (take-all n [] (omega arith)) ∙ ap (take n) (sym (drop-all a xs past))
 
+-- a part that goes as far as the table
 pub last-part : {X : Type 0} (xs : List X) (a n : ℕ) → length xs - a ≤ n → part a (length xs - a) xs ≡ part a n xs
 last-part xs a n long =
     let rest = length-drop a xs in

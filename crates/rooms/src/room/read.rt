@@ -8,7 +8,6 @@ use crate::room::Room;
 use letters::body::Body;
 use letters::letter::Letter;
 use letters::refusal::Refusal;
-use seats::parts::part;
 use sheets::pages::pages;
 
 impl Room {
@@ -22,8 +21,7 @@ impl Room {
         ensures { λ r. ⌜ told (λ log. now log) r ≡ log-answer (state (now (self .entry))) (now (logs .entry)) (length (now (holds .entry))) seat ⌝ }
     {
         self.may_visit(logs.len(), holds.len(), seat)?;
-        let reader = self.seats[seat as usize];
-        Ok(part(logs, self.start(seat), reader.log_len() as usize))
+        Ok(self.log_part(logs, seat))
     }
 
     // How many pages a seat's log takes. Refused with 8.

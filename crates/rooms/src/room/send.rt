@@ -13,7 +13,6 @@ use letters::body::Body;
 use letters::letter::Letter;
 use letters::refusal::Refusal;
 use seats::finding::find_named;
-use seats::parts::part;
 use seats::seat::DocketEvent;
 
 impl Room {
@@ -60,9 +59,7 @@ impl Room {
         if !self.knows(docket) {
             return Err(Refusal::WrongDocket);
         }
-        let poster = self.seats[docket.seat as usize];
-        let log = part(logs, self.start(docket.seat), poster.log_len() as usize);
-        match find_named(log, docket.seat, docket.number) {
+        match find_named(self.log_part(logs, docket.seat), docket.seat, docket.number) {
             Some((_, letter)) => Ok(letter),
             None => Err(Refusal::LetterMissing),
         }

@@ -15,7 +15,6 @@ use letters::letter_id::LetterId;
 use letters::refusal::Refusal;
 use seats::finding::first_ready;
 use seats::parts::close_up;
-use seats::parts::part;
 use seats::parts::put;
 
 impl Room {
@@ -51,7 +50,7 @@ impl Room {
         ensures { λ r. ⌜ r ≡ first-ready (state (now (self .entry))) (now (holds .entry)) seat ⌝ }
     {
         let viewer = self.seats[seat as usize];
-        let hold = part(holds, self.start(seat), viewer.held as usize);
+        let hold = self.hold_part(holds, seat);
         first_ready(hold, self.count, self.quota, seat, &viewer.clock)
     }
 

@@ -5,13 +5,16 @@ ghost use lib.ListN.{replicate};
 ghost use Rattle.letters.specs.Refusals.{told};
 ghost use Rattle.seats.specs.Keeping.{Kept};
 ghost use Rattle.seats.specs.Outcomes.{seat-check};
-ghost use Rattle.seats.specs.Rooms.{foot, start, suffice, with-seat};
+ghost use Rattle.seats.specs.Rooms.{foot, hold-of, log-of, start, suffice, with-seat};
 ghost use Rattle.seats.specs.Seats.{fresh};
 ghost use Rattle.rooms.specs.States.{state};
 use crate::room::Room;
 use causality::docket::DocketState;
+use letters::body::Body;
+use letters::letter::Letter;
 use letters::refusal::Refusal;
 use letters::stamp::Stamp;
+use seats::parts::part;
 use seats::seat::Seat;
 
 impl Room {
@@ -67,6 +70,24 @@ impl Room {
     {
         let seat = self.seats[s as usize];
         self.start(s) + seat.log_len() as usize
+    }
+
+    // The letters of a seat's log.
+    pub(crate) fn log_part<'t, B: Body>(&self, logs: &'t [Letter<B>], s: u8) -> &'t [Letter<B>]
+        requires { ⌜ s < now self .count ⌝ }
+        ensures { λ r. ⌜ now r ≡ log-of (state (now (self .entry))) (now (logs .entry)) s ⌝ }
+    {
+        let seat = self.seats[s as usize];
+        part(logs, self.start(s), seat.log_len() as usize)
+    }
+
+    // The letters of a seat's hold, in order of arrival.
+    pub(crate) fn hold_part<'t, B: Body>(&self, holds: &'t [Letter<B>], s: u8) -> &'t [Letter<B>]
+        requires { ⌜ s < now self .count ⌝ }
+        ensures { λ r. ⌜ now r ≡ hold-of (state (now (self .entry))) (now (holds .entry)) s ⌝ }
+    {
+        let seat = self.seats[s as usize];
+        part(holds, self.start(s), seat.held as usize)
     }
 
     // Whether the tables suffice and the seat is of this room.

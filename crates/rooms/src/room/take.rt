@@ -16,7 +16,6 @@ use letters::body::Body;
 use letters::letter::Letter;
 use letters::refusal::Refusal;
 use seats::finding::find_named;
-use seats::parts::part;
 use seats::parts::put;
 use seats::taken::Taken;
 
@@ -94,14 +93,12 @@ impl Room {
         requires { ⌜ seat < now self .count ⌝ }
         ensures { λ r. ⌜ r ≡ is-repeat (state (now (self .entry))) (now (holds .entry)) seat (now (letter .entry)) ⌝ }
     {
-        let taker = self.seats[seat as usize];
         let poster = letter.poster();
         let number = letter.number();
-        if number <= taker.clock.entry(poster) {
+        if number <= self.seats[seat as usize].clock.entry(poster) {
             return true;
         }
-        let hold = part(holds, self.start(seat), taker.held as usize);
-        find_named(hold, poster, number).is_some()
+        find_named(self.hold_part(holds, seat), poster, number).is_some()
     }
 
     // Tells the seat that it holds one letter more.
