@@ -4,3 +4,5 @@ pub mod Showing
 pub mod Taking
 pub mod Closing
 pub mod Drafts
+pub mod Stepping
+pub mod Running

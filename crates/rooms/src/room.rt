@@ -12,6 +12,7 @@ mod post;
 mod read;
 mod send;
 mod show;
+mod step;
 mod table;
 mod take;
 
