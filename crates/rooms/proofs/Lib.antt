@@ -6,3 +6,4 @@ pub mod Closing
 pub mod Drafts
 pub mod Stepping
 pub mod Running
+pub mod Drawing

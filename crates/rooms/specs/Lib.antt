@@ -3,3 +3,4 @@ pub mod Calls
 pub mod Reading
 pub mod Drafts
 pub mod Running
+pub mod Drawing

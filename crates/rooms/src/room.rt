@@ -8,6 +8,7 @@ use seats::seat::Seat;
 
 mod close;
 mod dockets;
+mod draw_up;
 mod post;
 mod read;
 mod send;
