@@ -12,8 +12,9 @@ use Rattle.letters.specs.declared.job.Job.the-variants.{Add, Strike}
 use Rattle.letters.specs.declared.letter.Letter.{Letter}
 use Rattle.letters.specs.declared.stamp.Stamp.{Stamp}
 use Rattle.letters.specs.Letters.{entry-at}
-use Rattle.letters.specs.Order.{covers, ready, side-by-side}
+use Rattle.letters.specs.Order.{covers, each-below, ready, side-by-side}
 use Rattle.letters.specs.Refusals.{Reason}
+use Rattle.rooms.specs.Drafts.{DraftState, enrol-check}
 use Rattle.sheets.specs.JobLists.{code-in, job-does, open-job}
 use Rattle.sheets.specs.Pages.{page-count}
 use Rattle.spool.specs.Masks.{all-but}
@@ -52,6 +53,8 @@ pub data Case : Type 0 where
   spool-holds : (bytes rows : ℕ) → Case
   -- job 0.1 is open with code 7: with which code after the letter?
   leaves-job : (m : Letter Job) (code : Option ℕ) → Case
+  -- with this quota, how many seats can be enrolled, one after the other, and with which number is the next refused?
+  takes-seats : (quota seats number : ℕ) → Case
   -- how many pages do so many rows take?
   takes-pages : (rows pages : ℕ) → Case
 
@@ -62,6 +65,14 @@ agree a b = cond a b (not b)
 abbrev no-number : {X : Type 0} → Result X Reason → ℕ
 no-number (Ok x) = 0
 no-number (Err why) = why .number
+
+-- a draft in which so many seats are enrolled, none of them under the name 1
+abbrev drafted-so-far : ℕ → ℕ → DraftState
+drafted-so-far quota seats = record { number = 0; quota = quota; names = replicate 16 2; count = seats }
+
+-- the seat after so many others can be enrolled
+abbrev enrols : ℕ → ℕ → Bool
+enrols quota seats = eqb (no-number (enrol-check (drafted-so-far quota seats) 1)) 0
 
 abbrev same-code : Option ℕ → Option ℕ → Bool
 same-code None None = true
@@ -77,6 +88,7 @@ holds (begins-with seats poster mask draws) = eqb (all-but seats poster) mask &&
 holds (spool-refused bytes number) = eqb (no-number (spool-answer 5 bytes)) number
 holds (spool-holds bytes rows) = row-fits (rows - 1) bytes && not (row-fits rows bytes)
 holds (leaves-job m code) = same-code (code-in (job-does (m .body) m (open-job 0 1 7 ∷ [])) 0 1) code
+holds (takes-seats quota seats number) = each-below (enrols quota) seats && eqb (no-number (enrol-check (drafted-so-far quota seats) 1)) number
 holds (takes-pages rows pages) = eqb (page-count rows) pages
 
 abbrev pub cases : List Case
@@ -94,6 +106,8 @@ cases =
     ∷ spool-holds 196 2
     ∷ leaves-job (letter3 first-struck 1 0 1 0 tt tt) (Some 7)
     ∷ leaves-job (letter3 first-struck 1 1 1 0 tt tt) None
+    ∷ takes-seats 16 16 3
+    ∷ takes-seats 17 15 3
     ∷ takes-pages 0 0
     ∷ takes-pages 20 1
     ∷ takes-pages 21 2

@@ -8,5 +8,5 @@ pub fn worked_cases() -> u8
     ensures hold { λ _. ⌜ Cases-hold ⌝ }
     ensures rows { λ r. ⌜ r ≡ length cases ⌝ }
 {
-    16
+    18
 }
