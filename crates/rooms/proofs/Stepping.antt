@@ -18,48 +18,51 @@ use Rattle.lives.specs.Worked.{Moment, Step, Works-on, moment}
 use Rattle.lives.proofs.Following.{works-on}
 use Rattle.rooms.specs.Calls.{post-room}
 
--- what one step leads to
+-- a call made a step, and keeps the room worked
 pub record Makes {B : Type 0} (move : Move B) (w : Moment B) (answer : Answer) (w′ : Moment B) : Type 0 where
   pub step : Step move w answer w′
   pub works : Works-on move w answer w′
 
--- a step that was asked for, with the answer that was given
-pub makes : {B : Type 0} (asked move : Move B) (w : Moment B) (given answer : Answer) (w′ : Moment B) → asked ≡ move → given ≡ answer → Step move w answer w′
-    → Makes asked w given w′
-makes {B = B} asked move w given answer w′ is told step =
-    let so = subst (λ (m : Move B). Step m w given w′) (sym is) (subst (λ (a : Answer). Step move w a w′) (sym told) step) in
-    record { step = so; works = works-on asked w given w′ so }
+makes : {B : Type 0} {move : Move B} {w w′ : Moment B} {answer : Answer} → Step move w answer w′ → Makes move w answer w′
+makes step = record { step = step; works = works-on _ _ _ _ step }
 
--- a room, its tables and its carrier, before and after a call
+-- a step that was asked for, with the answer that was given
+pub made-as : {B : Type 0} (asked move : Move B) (w : Moment B) (given answer : Answer) (w′ : Moment B) → asked ≡ move → given ≡ answer → Makes move w answer w′
+    → Makes asked w given w′
+made-as {B = B} asked move w given answer w′ is told step =
+    subst (λ (m : Move B). Makes m w given w′) (sym is) (subst (λ (a : Answer). Makes move w a w′) (sym told) step)
+
+-- From what each call promises, of a room with its tables and its carrier before and after. A caller with a docket in hand
+-- carries `Worked` on by these.
 module _ {B : Type 0} (st st′ : RoomState) (logs logs′ holds holds′ : List (Letter B)) (c c′ : Meaning (Letter B)) where
-  pub post-steps : (s : ℕ) (body : B) (r : Result Slip Reason) → r ≡ post-answer st (length logs) (length holds) s
+  pub post-makes : (s : ℕ) (body : B) (r : Result Slip Reason) → r ≡ post-answer st (length logs) (length holds) s
       → st′ ≡ post-room st (post-answer st (length logs) (length holds) s) s
       → Post-logs st (post-answer st (length logs) (length holds) s) s body logs logs′
-      → Step (moves.Post s body) (moment st logs holds c) (dockets r) (moment st′ logs′ holds c)
-  post-steps s body r answer room table = record { answers = ap dockets answer; room = room; logs = table; holds = refl; carrier = refl }
+      → Makes (moves.Post s body) (moment st logs holds c) (dockets r) (moment st′ logs′ holds c)
+  post-makes s body r answer room table = makes (record { answers = ap dockets answer; room = room; logs = table; holds = refl; carrier = refl })
 
-  pub send-steps : (d : Slip) (r : Result (Unit {0}) Reason) → r ≡ send-answer st logs (length holds) c d
+  pub send-makes : (d : Slip) (r : Result (Unit {0}) Reason) → r ≡ send-answer st logs (length holds) c d
       → st′ ≡ docket-room st (d .seat) Send (send-answer st logs (length holds) c d)
       → Put-of c (send-letter st logs (length holds) (c .seats) d) (send-answer st logs (length holds) c d) c′
-      → Step (moves.Send (d .room) (d .seat) (d .number)) (moment st logs holds c) (does r) (moment st′ logs holds c′)
-  send-steps d r answer room put = record { answers = ap does answer; room = room; logs = refl; holds = refl; carrier = put }
+      → Makes (moves.Send (d .room) (d .seat) (d .number)) (moment st logs holds c) (does r) (moment st′ logs holds c′)
+  send-makes d r answer room put = makes (record { answers = ap does answer; room = room; logs = refl; holds = refl; carrier = put })
 
-  pub park-steps : (d : Slip) (r : Result (Unit {0}) Reason) → r ≡ park-answer st d → st′ ≡ docket-room st (d .seat) Park (park-answer st d)
-      → Step (moves.Park (d .room) (d .seat) (d .number)) (moment st logs holds c) (does r) (moment st′ logs holds c)
-  park-steps d r answer room = record { answers = ap does answer; room = room; logs = refl; holds = refl; carrier = refl }
+  pub park-makes : (d : Slip) (r : Result (Unit {0}) Reason) → r ≡ park-answer st d → st′ ≡ docket-room st (d .seat) Park (park-answer st d)
+      → Makes (moves.Park (d .room) (d .seat) (d .number)) (moment st logs holds c) (does r) (moment st′ logs holds c)
+  park-makes d r answer room = makes (record { answers = ap does answer; room = room; logs = refl; holds = refl; carrier = refl })
 
-  pub collect-steps : (s : ℕ) (r : Result Slip Reason) → r ≡ collect-answer st s → st′ ≡ docket-room st s Collect (collect-answer st s)
-      → Step (moves.Collect s) (moment st logs holds c) (dockets r) (moment st′ logs holds c)
-  collect-steps s r answer room = record { answers = ap dockets answer; room = room; logs = refl; holds = refl; carrier = refl }
+  pub collect-makes : (s : ℕ) (r : Result Slip Reason) → r ≡ collect-answer st s → st′ ≡ docket-room st s Collect (collect-answer st s)
+      → Makes (moves.Collect s) (moment st logs holds c) (dockets r) (moment st′ logs holds c)
+  collect-makes s r answer room = makes (record { answers = ap dockets answer; room = room; logs = refl; holds = refl; carrier = refl })
 
-  pub take-steps : (s place : ℕ) (r : Result (Taking × Name) Reason)
+  pub take-makes : (s place : ℕ) (r : Result (Taking × Name) Reason)
       → Take (take-check st (length logs) (length holds) c s place) st holds c s place r st′ holds′ c′
-      → Step (moves.Take s place) (moment st logs holds c) (takes r) (moment st′ logs holds′ c′)
-  take-steps s place r takes = record { result = r; answers = refl; leaves = takes; logs = refl }
+      → Makes (moves.Take s place) (moment st logs holds c) (takes r) (moment st′ logs holds′ c′)
+  take-makes s place r takes = makes (record { result = r; answers = refl; leaves = takes; logs = refl })
 
-  pub show-steps : (s : ℕ) (r : Result Name Reason) → r ≡ show-answer (show-outcome st (length logs) holds s)
+  pub show-makes : (s : ℕ) (r : Result Name Reason) → r ≡ show-answer (show-outcome st (length logs) holds s)
       → st′ ≡ show-room st (show-outcome st (length logs) holds s) s
       → logs′ ≡ show-logs st (show-outcome st (length logs) holds s) s logs
       → holds′ ≡ show-holds st (show-outcome st (length logs) holds s) s holds
-      → Step (moves.Show s) (moment st logs holds c) (shows r) (moment st′ logs′ holds′ c)
-  show-steps s r answer room table hold = record { answers = ap shows answer; room = room; logs = table; holds = hold; carrier = refl }
+      → Makes (moves.Show s) (moment st logs holds c) (shows r) (moment st′ logs′ holds′ c)
+  show-makes s r answer room table hold = makes (record { answers = ap shows answer; room = room; logs = table; holds = hold; carrier = refl })

@@ -9,7 +9,6 @@ ghost use Rattle.rooms.specs.States.{state};
 use crate::room::Room;
 use letters::letter::Letter;
 use letters::refusal::Refusal;
-use seats::parts::part;
 use sheets::sheet::Sheet;
 use sheets::sheet::draw_up;
 
@@ -31,8 +30,6 @@ impl Room {
         if K::capacity() < self.count as u32 * self.quota as u32 {
             return Err(Refusal::TooFewPlaces);
         }
-        let reader = self.seats[seat as usize];
-        let log = part(logs, self.start(seat), reader.log_len() as usize);
-        draw_up(sheet, log)
+        draw_up(sheet, self.log_part(logs, seat))
     }
 }

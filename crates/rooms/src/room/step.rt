@@ -79,9 +79,14 @@ fn tell_spent(answer: Result<(), Returned>) -> Reply
 {
     match answer {
         Ok(()) => Reply::Done,
-        Err(Returned { docket, refusal }) => {
+        Err(
+            Returned {
+                docket,
+                refusal: why,
+            },
+        ) => {
             let _ = write_out(docket);
-            Reply::Refused(refusal)
+            Reply::Refused(why)
         }
     }
 }

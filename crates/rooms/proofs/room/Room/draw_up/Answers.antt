@@ -1,10 +1,9 @@
-use mathlib.Core.Path.{_≡_, ap, _∙_}
+use mathlib.Core.Path.{ap, _∙_}
 use Prim.Native.Nat.{_*_, _≤_}
 use native.Mathlib.Omega.{arith}
 use borrow.Author.Needs.{needs}
 use lib.ListN.{length}
 use Rattle.sheets.specs.Sheets.{answered, left-by}
-use Rattle.seats.specs.Rooms.{log-of}
 use Rattle.rooms.specs.States.{state}
 use Rattle.rooms.proofs.Drawing.{comes-to, goes-up, yes-kept}
 use Rattle.rooms.proofs.Rooms.{sound}
@@ -15,12 +14,11 @@ returns g c =
     let r = c .args .self .now in
     let kind = g .K·Sheet .kind in
     let logs = c .args .logs .now in
-    let log = c .part-log .result .now in
+    let log = c .log-part .result .now in
     let drew = c .draw-up .ensures in
     let wide : r .count * r .quota ≤ kind .places = search needs in
-    let is : log ≡ log-of (state r) logs (c .args .seat) = search needs in
-    let to = comes-to kind (state r) (sound r) logs (length (c .args .holds .now)) (c .args .seat) log (c .in-Continue-may-visit .ensures tt) wide is in
-    let up = goes-up kind (state r) (sound r) logs (length (c .args .holds .now)) (c .args .seat) log (c .in-Continue-may-visit .ensures tt) wide is in
+    let to = comes-to kind (state r) (sound r) logs (length (c .args .holds .now)) (c .args .seat) log (c .in-Continue-may-visit .ensures tt) wide (c .log-part .ensures) in
+    let up = goes-up kind (state r) (sound r) logs (length (c .args .holds .now)) (c .args .seat) log (c .in-Continue-may-visit .ensures tt) wide (c .log-part .ensures) in
     record {
       answer = drew .answer ∙ ap answered to;
       leaves = drew .leaves ∙ ap (λ o. left-by o (g .K·Sheet .meaning (c .args .sheet .now))) to;
