@@ -1,0 +1,3 @@
+pub mod Dispatching
+pub mod Written
+pub mod Leading

@@ -1,0 +1,10 @@
+use Rattle.lives.specs.Worked.{moment}
+use Rattle.rooms.specs.States.{state}
+use Rattle.branch.specs.Runs.{Led}
+use Rattle.branch.proofs.running.make_steps.Given as given
+
+-- the steps so far are made
+abbrev pub Inv-loop-i : given.InvT-loop-i
+Inv-loop-i g l =
+    Led (moment (state (l .entry .room)) (l .entry .logs) (l .entry .holds) (g .C·Carrier .meaning (l .entry .carrier)))
+    (moment (state (l .room)) (l .logs) (l .holds) (g .C·Carrier .meaning (l .carrier)))
