@@ -9,7 +9,7 @@ use Rattle.std.specs.declared.result.Result.the-variants.{Ok, Err}
 use Rattle.std.proofs.shelf.Tests.{le-leb}
 use Rattle.letters.specs.declared.letter.Letter.{Letter}
 use Rattle.letters.specs.declared.refusal.Refusal.{Refusal}
-use Rattle.letters.specs.Refusals.{told, unless}
+use Rattle.letters.specs.Refusals.{Reason, told, unless}
 use Rattle.carriers.specs.Meaning.{Kept}
 use Rattle.sheets.specs.Sheets.{Kind, draw-up-outcome, drawn-up}
 use Rattle.seats.specs.Keeping.{Sound}
@@ -24,7 +24,12 @@ pub yes-kept : {X : Type 0} (r : Result (Unit {0}) Refusal) (x y : X) → told (
 yes-kept (Ok done) x y e = tt
 yes-kept (Err why) x y e = absurd (let z : _≡_ {A = ℕ} 0 1 = cc in omega arith)
 
--- a log is drawn up on a sheet that has places for any log of the room
+-- what drawing up a log comes to, and that it is accepted
+pub record Goes-up {M B : Type 0} (kind : Kind M B) (log : List (Letter B)) (outcome : Result M Reason) : Type 0 where
+  pub accepted : draw-up-outcome kind log ≡ Ok (drawn-up kind log)
+  pub same : draw-up-outcome kind log ≡ outcome
+
+-- a seat's log goes up on a sheet that has places for any log of the room
 module _ {M B : Type 0} (kind : Kind M B) (st : RoomState) (ok : Sound st) (logs : List (Letter B)) (holds s : ℕ) (log : List (Letter B))
     (can : Ok tt ≡ seat-check st (length logs) holds s) (wide : st .count * st .quota ≤ kind .places) (is : log ≡ log-of st logs s) where
   short : length log ≤ kind .places
@@ -34,12 +39,15 @@ module _ {M B : Type 0} (kind : Kind M B) (st : RoomState) (ok : Sound st) (logs
       let same = ap length is in
       omega arith
 
-  pub goes-up : draw-up-outcome kind log ≡ Ok (drawn-up kind log)
-  goes-up = ap (λ b. unless b 17 (Ok (drawn-up kind log))) (le-leb _ _ short)
+  up : draw-up-outcome kind log ≡ Ok (drawn-up kind log)
+  up = ap (λ b. unless b 17 (Ok (drawn-up kind log))) (le-leb _ _ short)
 
-  pub comes-to : draw-up-outcome kind log ≡ sheet-outcome kind st logs holds s
-  comes-to =
-      goes-up
-      ∙ ap (λ l. Ok (drawn-up kind l)) is
-      ∙ sym (ap (λ b. unless b 17 (Ok (drawn-up kind (log-of st logs s)))) (le-leb _ _ wide))
-      ∙ ap (λ k. follows k (places-check kind st (Ok (drawn-up kind (log-of st logs s))))) can
+  pub goes-up : Goes-up kind log (sheet-outcome kind st logs holds s)
+  goes-up = record {
+    accepted = up;
+    same =
+        up
+        ∙ ap (λ l. Ok (drawn-up kind l)) is
+        ∙ sym (ap (λ b. unless b 17 (Ok (drawn-up kind (log-of st logs s)))) (le-leb _ _ wide))
+        ∙ ap (λ k. follows k (places-check kind st (Ok (drawn-up kind (log-of st logs s))))) can;
+  }

@@ -1,5 +1,5 @@
 -- Each call on a room is a step of its life, so the calls keep a room worked.
-use mathlib.Core.Path.{_≡_, refl, ap, subst, sym, _∙_}
+use mathlib.Core.Path.{_≡_, refl, ap, subst, sym}
 use mathlib.Core.List.{List}
 use Prim.Native.Nat.{ℕ}
 use lib.ListN.{length}
@@ -13,7 +13,7 @@ use Rattle.seats.specs.Outcomes.{Post-logs, Put-of, Slip, Take, Taking, collect
 use Rattle.seats.specs.Rooms.{RoomState}
 use Rattle.lives.specs.declared.moves.Move.{Move}
 use Rattle.lives.specs.declared.moves.Move.the-variants as moves
-use Rattle.lives.specs.Traces.{Answer, dockets, does, shows, slip, takes}
+use Rattle.lives.specs.Traces.{Answer, dockets, does, shows, takes}
 use Rattle.lives.specs.Worked.{Moment, Step, Works-on, moment}
 use Rattle.lives.proofs.Following.{works-on}
 use Rattle.rooms.specs.Calls.{post-room}

@@ -1,8 +1,8 @@
 // A room's whole life: it opens and makes one step after the other.
 ghost use mathlib.Core.Path.{_≡_};
 ghost use mathlib.Core.List.{[]};
-ghost use Prim.Native.Nat.{_≤_};
-ghost use lib.ListN.{length, drop};
+ghost use Prim.Native.Nat.{_<_, _≤_};
+ghost use lib.ListN.{length, drop, set};
 ghost use Rattle.std.specs.declared.result.Result.the-variants.{Ok};
 ghost use Rattle.letters.specs.Refusals.{told};
 ghost use Rattle.lives.specs.Traces.{answer-of, traced};
@@ -74,6 +74,14 @@ fn step_all<B: Body, C: Carrier<Body = B>>(
 {
     for i in 0..steps.len() {
         let reply = room.step(logs, holds, carrier, steps[i]);
-        replies[i] = reply;
+        note(replies, i, reply);
     }
+}
+
+// Writes a reply down at its place.
+fn note(replies: &mut [Reply], i: usize, reply: Reply)
+    requires { ⌜ i < length (now replies) ⌝ }
+    ensures { λ _. ⌜ now (replies .exit) ≡ set (now (replies .entry)) i reply ⌝ }
+{
+    replies[i] = reply;
 }

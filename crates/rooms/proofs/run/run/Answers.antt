@@ -1,4 +1,4 @@
-use mathlib.Core.Path.{_≡_, ap, subst, _∙_}
+use mathlib.Core.Path.{subst}
 use mathlib.Core.List.{[]}
 use lib.ListN.{length}
 use Rattle.seats.specs.Rooms.{RoomState}

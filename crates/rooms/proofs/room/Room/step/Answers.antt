@@ -1,4 +1,4 @@
-use mathlib.Core.Path.{_≡_, ap, sym, _∙_}
+use mathlib.Core.Path.{ap, sym, _∙_}
 use Rattle.letters.specs.Names.{name-of}
 use Rattle.letters.specs.Refusals.{told}
 use Rattle.seats.specs.Outcomes.{Slip, taken-as}
