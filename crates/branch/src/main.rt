@@ -2,6 +2,9 @@
 ghost use Prim.Native.Nat.{_≤_};
 ghost use lib.ListN.{length};
 ghost use Rattle.std.specs.Vec.{made};
+ghost use Rattle.lives.specs.Worked.{moment};
+ghost use Rattle.rooms.specs.States.{state};
+ghost use Rattle.branch.specs.Runs.{Keeps-on, Led};
 use crate::line::add_log;
 use crate::running::make_steps;
 use carriers::carrier::Carrier;
@@ -13,6 +16,9 @@ use letters::letter::Letter;
 use letters::stamp::Stamp;
 use rooms::draft::Draft;
 use rooms::room::Room;
+use sheets::job_list::JobList;
+use sheets::job_list::entering::JobListSheet;
+use sheets::sheet::Sheet;
 use std::io;
 use std::io::Read;
 
@@ -42,13 +48,15 @@ fn fill(input: &mut impl Read, buffer: &mut [u8]) -> io::Result<usize>
 }
 
 // Makes the steps of the standard input, which may be of any length, and prints their lines.
-fn run<C: Carrier<Body = Job>>(
+fn drive<C: Carrier<Body = Job>>(
     rt: &LibcRuntime,
     room: &mut Room,
     logs: &mut [Letter<Job>],
     holds: &mut [Letter<Job>],
     carrier: &mut C,
-) -> io::Result<()> {
+) -> io::Result<()>
+    ensures { λ r. ⌜ made r (λ _. Led (moment (state (now (room .entry))) (now (logs .entry)) (now (holds .entry)) (C·Carrier .meaning (now (carrier .entry)))) (moment (state (now (room .exit))) (now (logs .exit)) (now (holds .exit)) (C·Carrier .meaning (now (carrier .exit))))) ⌝ }
+{
     let mut input = rt.stdin();
     let mut buffer = [0; CHUNK];
     let mut index = 0;
@@ -71,6 +79,20 @@ fn run<C: Carrier<Body = Job>>(
         }
     }
     Ok(())
+}
+
+// The same. By whatever calls the room was worked before, afterwards its logs are in causal order, they are complete where
+// nothing is on its way, and logs of the same letters make the same sheet, of every kind that has jobs.
+fn run<K: Sheet<Body = Job>, C: Carrier<Body = Job>>(
+    rt: &LibcRuntime,
+    room: &mut Room,
+    logs: &mut [Letter<Job>],
+    holds: &mut [Letter<Job>],
+    carrier: &mut C,
+) -> io::Result<()>
+    ensures { λ r. ⌜ made r (λ _. Keeps-on (K·Sheet .kind) (moment (state (now (room .entry))) (now (logs .entry)) (now (holds .entry)) (C·Carrier .meaning (now (carrier .entry)))) (moment (state (now (room .exit))) (now (logs .exit)) (now (holds .exit)) (C·Carrier .meaning (now (carrier .exit))))) ⌝ }
+{
+    drive(rt, room, logs, holds, carrier)
 }
 
 // Prints the logs of the first seats.
@@ -104,6 +126,6 @@ fn main(rt: LibcRuntime) -> io::Result<()> {
         return Err(io::Error::from(io::ErrorKind::InvalidInput));
     }
     let mut room = draft.open(&logs, &holds, &lines);
-    run(&rt, &mut room, &mut logs, &mut holds, &mut lines)?;
+    run::<JobList, Lines<Job>>(&rt, &mut room, &mut logs, &mut holds, &mut lines)?;
     print_logs(&rt, &room, &logs, &holds, 3)
 }
