@@ -3,3 +3,4 @@ pub mod closed;
 pub mod docket;
 pub mod draft;
 pub mod room;
+pub mod run;

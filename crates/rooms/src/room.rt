@@ -8,10 +8,12 @@ use seats::seat::Seat;
 
 mod close;
 mod dockets;
+mod draw_up;
 mod post;
 mod read;
 mod send;
 mod show;
+mod step;
 mod table;
 mod take;
 
