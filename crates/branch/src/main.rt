@@ -1,4 +1,6 @@
 // A box to try: a job room of three seats on lines.
+#![tactic(auto)]
+
 ghost use Rattle.std.specs.Prelude.{◌≤◌, length, IfOk, OnOk};
 ghost use Rattle.lives.specs.Worked.{moment};
 ghost use Rattle.rooms.specs.States.{state};

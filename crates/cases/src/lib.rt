@@ -1,4 +1,6 @@
 // The worked cases: questions with the answers that they must have.
+#![tactic(auto)]
+
 ghost use Rattle.std.specs.Prelude.{◌≡◌, length};
 ghost use Rattle.cases.specs.Cases.{CasesHold, cases};
 

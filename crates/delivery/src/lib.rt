@@ -1,4 +1,6 @@
 // Delivery: what one seat puts on a carrier, another draws.
+#![tactic(auto)]
+
 ghost use Rattle.std.specs.Prelude.{◌≡◌, length};
 ghost use Rattle.letters.specs.Letters.{parts, parts_of};
 ghost use Rattle.letters.specs.Refusals.{told};

@@ -1,4 +1,6 @@
 // Letters: who posted them, when, and what they carry; and why a call says no.
+#![tactic(auto)]
+
 pub mod body;
 pub mod job;
 pub mod letter;

@@ -1,4 +1,6 @@
 // Lists a file of letter records, or says where it is damaged.
+#![tactic(auto)]
+
 ghost use Rattle.std.specs.Prelude.{◌≤◌, length, IfOk};
 
 use crate::line::{Say, add_count};

@@ -1,4 +1,6 @@
 // The lives of rooms: what the steps on a room come to from its opening on, and what is kept at all times.
+#![tactic(auto)]
+
 pub mod laws;
 pub mod moves;
 pub mod reply;

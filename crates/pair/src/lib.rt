@@ -1,4 +1,6 @@
 // Pair: two carriers as one. A letter goes to both, and a seat's list is the first's followed by the second's.
+#![tactic(auto)]
+
 ghost use Rattle.std.specs.Prelude.{◌≡◌, Ok, ◌==◌};
 ghost use Rattle.letters.specs.Refusals.{told};
 ghost use Rattle.pair.specs.PairLaws.{lawful_both};

@@ -1,4 +1,6 @@
 // Letters as records of 96 bytes, and files of them.
+#![tactic(auto)]
+
 mod bytes;
 pub mod fault;
 pub mod file;

@@ -1,4 +1,6 @@
 // Rooms of boxes that post letters to one another, and show them in causal order.
+#![tactic(auto)]
+
 pub mod asking;
 pub mod closed;
 pub mod docket;

@@ -1,5 +1,7 @@
 // Runs a job room on a pair of lines and a spool, by steps of twelve bytes, and prints what each replies, the logs, and the
 // job list of each seat.
+#![tactic(auto)]
+
 use carriers::carrier::Carrier;
 use carriers::lines::Lines;
 use letters::body::Body;

@@ -1,4 +1,6 @@
 // What a room keeps for its seats, and what each call on a room comes to.
+#![tactic(auto)]
+
 pub mod finding;
 pub mod parts;
 pub mod seat;

@@ -3,6 +3,8 @@
 // Standard input is blocks of 96 bytes. A letter is laid out as in a letter record. A block with 255 at byte 32 draws up
 // the letters since the last such block, and one with 254 there enters them on the sheet as it stands; byte 33 of it says
 // which sheet: 1 the timeline, 2 the job list.
+#![tactic(auto)]
+
 ghost use Rattle.std.specs.Prelude.{◌≡◌, length};
 
 use letters::body::Body;

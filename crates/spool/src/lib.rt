@@ -1,4 +1,6 @@
 // Spool: letter records, each with a mask of the seats that have yet to draw it, in one lent buffer.
+#![tactic(auto)]
+
 ghost use Rattle.std.specs.Prelude.{ℕ, ◌*◌, ◌^◌, ◌<◌, ◌≤◌, length};
 ghost use Rattle.spool.specs.Rows.{mask_of, row_at, row_size};
 

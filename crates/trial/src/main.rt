@@ -1,4 +1,6 @@
 // Runs steps on lines, on a spool and on a pair of both, and prints what each of the three answers.
+#![tactic(auto)]
+
 ghost use Rattle.std.specs.Prelude.{◌≤◌};
 
 use carriers::carrier::Carrier;
