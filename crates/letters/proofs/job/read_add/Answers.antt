@@ -6,4 +6,4 @@ pub returns : goal.returns
 returns c =
     let bs : List ℕ = c.args.bytes.now in
     let first : get_or bs 0 0 ≡ 1 = search rules in
-    add_listed bs c.from_le_bytes.result (λ i. omega (arith, c.type-inv.bytes i)) c.requires.size first c.from_le_bytes.ensures
+    add_listed bs c.from_le_bytes.result (λ i. omega (arith, c.type_inv.bytes i)) c.requires.size first c.from_le_bytes.ensures

@@ -8,4 +8,4 @@ returns c =
     let first : get_or bs 0 0 ≡ 2 = search rules in
     let from = ap (λ n. n.poster) c.of.ensures in
     let is = ap (λ n. n.number) c.of.ensures ∙ c.from_le_bytes.ensures in
-    strike_listed bs c.of.result.poster c.of.result.number (λ i. omega (arith, c.type-inv.bytes i)) c.requires.size first from is
+    strike_listed bs c.of.result.poster c.of.result.number (λ i. omega (arith, c.type_inv.bytes i)) c.requires.size first from is

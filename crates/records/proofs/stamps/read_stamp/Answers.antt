@@ -9,7 +9,7 @@ loop-seat-preserved c =
     let k : ℕ = c.loop-seat.seat in (
       search rules,
       written_set bs c.loop-seat.entries k c.number-at.result (omega arith) (omega arith)
-          (omega (arith, c.type-inv.bytes (2 * k))) c.number-at.ensures c.loop-seat.invariant.1,
+          (omega (arith, c.type_inv.bytes (2 * k))) c.number-at.ensures c.loop-seat.invariant.1,
     )
 
 pub returns : goal.returns

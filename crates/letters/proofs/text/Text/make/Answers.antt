@@ -5,16 +5,19 @@ use Rattle.letters.specs.Texts.{text_made, short, front, long}
 use Rattle.letters.specs.TextsLemmas.{laid}
 use Rattle.letters.proofs.text.Text.make.Goals as goal
 
-pub invariant-of-result : goal.invariant-of-result
+pub invariant_of-result : goal.invariant_of-result
 unfolding text_made
-invariant-of-result c =
+invariant_of-result c =
     let bs : List ℕ = c.args.bytes.now in
     let n : ℕ = length bs in
     let m = text_made bs (ap is_some c.requires) in
-    let is : c.lay.new.out ≡ padded longest_text bs = c.lay.ensures ∙ laid bs in (
-      ap length is ∙ m.sized,
-      (m.short, (ap (λ l. is_some (text_wrong (take n l))) is ∙ m.clean, (ap (drop n) is ∙ m.blank, tt))),
-    )
+    let is : c.lay.new.out ≡ padded longest_text bs = c.lay.ensures ∙ laid bs in
+    record {
+      sized = ap length is ∙ m.sized;
+      short = m.short;
+      clean = ap (λ l. is_some (text_wrong (take n l))) is ∙ m.clean;
+      blank = ap (drop n) is ∙ m.blank;
+    }
 
 pub returns : goal.returns
 returns c =
