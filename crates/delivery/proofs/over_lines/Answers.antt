@@ -13,9 +13,9 @@ returns g c =
     let seats = c.args.seats in
     let seat = c.args.seat in
     let lent = parts c.args.stamp.now c.args.poster.now c.args.body.now in
-    let ends = first_drawn (lines_of l) (lawful_lines l) c.new-lines.ensures.empty x seat lent _ _ _ c.put-and-draw.ensures in
+    let ends = first_drawn (lines_of l) (lawful_lines l) c.new-lines.ensures.empty x seat lent _ _ _ c.put_and_draw.ensures in
     let same : first_answer l.seats x.poster seat ≡ delivery_answer seats c.args.size (length c.args.places.now) x.poster seat =
-    ap (λ n. first_answer n x.poster seat) c.new-lines.ensures.seats ∙ ap (λ a. and_then a (first_answer seats x.poster seat)) c.in-ok-check.ensures in
+    ap (λ n. first_answer n x.poster seat) c.new-lines.ensures.seats ∙ ap (λ a. and_then a (first_answer seats x.poster seat)) c.in_ok-check.ensures in
     record {
       answer = ends.0 ∙ same;
       filled = ends.1 ∙ ap (λ d. parts_by d (parts_of x) lent) same;

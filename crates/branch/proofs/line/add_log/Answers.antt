@@ -7,8 +7,8 @@ use Rattle.branch.proofs.line.add_log.Goals as goal
 pub returns : goal.returns
 returns c =
     let before = vec_items c.args.line.now in
-    let named = vec_items c.add-names.new.line in
-    made_as c.add-words-2.result (vec_items c.add-words-2.new.line) (named ++ string_bytes c.in-ok-format-2.field-0) (before ++ log_line c.args.seat c.args.log.now)
-    (ap (λ l. named ++ l) c.in-ok-format-2.ensures.ok ∙ log_all before (string_bytes c.in-ok-format.field-0) (flat_map after_space c.args.log.now) (vec_items c.add-words.new.line) named
-    c.args.seat c.in-ok-format.ensures.ok c.in-ok-add-words.ensures c.in-ok-add-names.ensures)
-    c.add-words-2.ensures
+    let named = vec_items c.add_names.new.line in
+    made_as c.add_words-2.result (vec_items c.add_words-2.new.line) (named ++ string_bytes c.in_ok-format-2.field-0) (before ++ log_line c.args.seat c.args.log.now)
+    (ap (λ l. named ++ l) c.in_ok-format-2.ensures.ok ∙ log_all before (string_bytes c.in_ok-format.field-0) (flat_map after_space c.args.log.now) (vec_items c.add_words.new.line) named
+    c.args.seat c.in_ok-format.ensures.ok c.in_ok-add_words.ensures c.in_ok-add_names.ensures)
+    c.add_words-2.ensures

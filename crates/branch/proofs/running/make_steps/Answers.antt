@@ -10,7 +10,7 @@ pub returns-then-not-branch : goal.returns-then-not-branch
 returns-then-not-branch g c =
     let bs = c.args.bytes.now in
     let i = c.loop-i.i in
-    let stop : c.in-ok-try-step.field-0 ≡ false = search rules in
+    let stop : c.in_ok-try_step.field-0 ≡ false = search rules in
     let eight : i * 8 + 8 - i * 8 ≡ 8 = omega arith in
     record {
       steps = i;
@@ -18,17 +18,17 @@ returns-then-not-branch g c =
       before = vec_items c.loop-i.lines;
       last = _;
       made = c.loop-i.invariant;
-      stopped = tried_stop c.in-ok-try-step.field-0 stop _ _ _ _ _ _ _ (ap (λ k. take k (drop (i * 8) bs)) eight) c.in-ok-try-step.ensures;
+      stopped = tried_stop c.in_ok-try_step.field-0 stop _ _ _ _ _ _ _ (ap (λ k. take k (drop (i * 8) bs)) eight) c.in_ok-try_step.ensures;
     }
 
 pub loop-i-preserved : goal.loop-i-preserved
 loop-i-preserved g c =
     let bs = c.args.bytes.now in
     let i = c.loop-i.i in
-    let step : c.in-ok-try-step.field-0 ≡ true = search rules in
+    let step : c.in_ok-try_step.field-0 ≡ true = search rules in
     let eight : i * 8 + 8 - i * 8 ≡ 8 = omega arith in
-    made_more _ _ _ _ i _ _ _ _ _ c.saturating-add.result c.loop-i.invariant c.saturating-add.ensures
-    (tried_step c.in-ok-try-step.field-0 step _ _ _ _ _ _ _ (ap (λ k. take k (drop (i * 8) bs)) eight) c.in-ok-try-step.ensures)
+    made_more _ _ _ _ i _ _ _ _ _ c.saturating_add.result c.loop-i.invariant c.saturating_add.ensures
+    (tried_step c.in_ok-try_step.field-0 step _ _ _ _ _ _ _ (ap (λ k. take k (drop (i * 8) bs)) eight) c.in_ok-try_step.ensures)
 
 pub returns-then-bytes-gt0 : goal.returns-then-bytes-gt0
 returns-then-bytes-gt0 g c =
@@ -42,5 +42,5 @@ returns-then-bytes-gt0 g c =
       before = vec_items c.loop-i.lines;
       last = _;
       made = c.loop-i.invariant;
-      stopped = record { read = short_step bs i left few; room = refl; line = c.in-ok-add-bad.ensures };
+      stopped = record { read = short_step bs i left few; room = refl; line = c.in_ok-add_bad.ensures };
     }

@@ -6,5 +6,5 @@ use Rattle.causality.proofs.laws.first_letter.Goals as goal
 pub returns : goal.returns
 returns g c =
     let body = c.args.body in
-    let made = c.make.ensures ∙ ap (λ t. parts t 0 body) c.first-stamp.ensures in
+    let made = c.make.ensures ∙ ap (λ t. parts t 0 body) c.first_stamp.ensures in
     record { parts = made; arrives = arrives c.make.result body made }

@@ -6,5 +6,5 @@ use Rattle.listing.proofs.line.add_count.Goals as goal
 pub returns : goal.returns
 returns c =
     let before = vec_items c.args.line.now in
-    made_as c.add-words.result (vec_items c.add-words.new.line) (before ++ string_bytes c.in-ok-format.field-0) (before ++ count_line c.args.letters)
-    (ap (λ l. before ++ l) c.in-ok-format.ensures.ok) c.add-words.ensures
+    made_as c.add_words.result (vec_items c.add_words.new.line) (before ++ string_bytes c.in_ok-format.field-0) (before ++ count_line c.args.letters)
+    (ap (λ l. before ++ l) c.in_ok-format.ensures.ok) c.add_words.ensures

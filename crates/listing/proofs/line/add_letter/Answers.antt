@@ -13,8 +13,8 @@ returns g c =
     let number = ap (λ n. decimal c.args.index ++ (codes " " ++ (decimal poster ++ (codes "." ++ (decimal n ++ codes " "))))) c.entry-number.ensures in
     let d = vec_items c.say.new.line in
     made_as c.add-2.result (vec_items c.add-2.new.line) (d ++ codes "\n") (before ++ letter_line g.B.Say.says c.args.index (parts stamp poster c.args.body.now))
-    (line_all before (string_bytes c.in-ok-format.field-0) (commas stamp.entries) says
-    (vec_items c.add-words.new.line) (vec_items c.add-stamp.new.line) (vec_items c.add.new.line) d
-    c.args.index poster (entry_at stamp poster) (c.in-ok-format.ensures.ok ∙ number)
-    c.in-ok-add-words.ensures c.in-ok-add-stamp.ensures c.in-ok-add.ensures c.in-ok-say.ensures)
+    (line_all before (string_bytes c.in_ok-format.field-0) (commas stamp.entries) says
+    (vec_items c.add_words.new.line) (vec_items c.add_stamp.new.line) (vec_items c.add.new.line) d
+    c.args.index poster (entry_at stamp poster) (c.in_ok-format.ensures.ok ∙ number)
+    c.in_ok-add_words.ensures c.in_ok-add_stamp.ensures c.in_ok-add.ensures c.in_ok-say.ensures)
     c.add-2.ensures

@@ -7,5 +7,5 @@ pub returns : goal.returns
 returns g c =
     let m = g.C.Carrier.meaning c.args.self.now.first in
     let n = g.D.Carrier.meaning c.args.self.now.second in
-    let level = equal_seats m n _ c.is-level.ensures c.if-not-is-level.false in
-    c.saturating-add.ensures ∙ waits_joined m n c.args.seat _ _ level c.waits-ahead.ensures c.waits.ensures
+    let level = equal_seats m n _ c.is_level.ensures c.if-not-is_level.false in
+    c.saturating_add.ensures ∙ waits_joined m n c.args.seat _ _ level c.waits-ahead.ensures c.waits.ensures

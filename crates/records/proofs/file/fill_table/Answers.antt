@@ -11,8 +11,8 @@ use Rattle.records.proofs.file.fill_table.Goals as goal
 part : (bs : List ℕ) (i : ℕ) → take (record_size * i + record_size - record_size * i) (drop (record_size * i) bs) ≡ take record_size (left bs i)
 part bs i = let size : record_size * i + record_size - record_size * i ≡ record_size = omega arith in ap (λ n. take n (drop (record_size * i) bs)) size
 
-pub read-letter-letter-requires : goal.read-letter-letter-requires
-read-letter-letter-requires g c =
+pub read_letter-letter-requires : goal.read_letter-letter-requires
+read_letter-letter-requires g c =
     let form = g.B.Body.form in
     let bs : List ℕ = c.args.bytes.now in
     let i : ℕ = c.loop-index.index in
@@ -28,13 +28,13 @@ loop-index-preserved g c =
     let form = g.B.Body.form in
     let bs : List ℕ = c.args.bytes.now in
     let i : ℕ = c.loop-index.index in
-    let m = c.read-letter-letter.result in
+    let m = c.read_letter-letter.result in
     let inv = c.loop-index.invariant in
-    let is = c.set-letter.ensures in
+    let is = c.set_letter.ensures in
     let within : i < length c.loop-index.table = omega (arith, inv.0, c.requires.places) in (
       ap length is ∙ length-set c.loop-index.table i m ∙ inv.0,
       ap (λ l. file_of form (take (i + 1) l)) is
-          ∙ load_more form bs c.loop-index.table i m within (c.read-letter-letter.ensures ∙ part bs i) inv.1,
+          ∙ load_more form bs c.loop-index.table i m within (c.read_letter-letter.ensures ∙ part bs i) inv.1,
       ap (drop (i + 1)) is ∙ rest_more form c.args.table.now c.loop-index.table i m inv.2,
     )
 

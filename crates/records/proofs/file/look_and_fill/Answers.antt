@@ -18,7 +18,7 @@ returns-then-table-count g c =
     let form = g.B.Body.form in
     let bs : List ℕ = c.args.bytes.now in
     let old = c.args.table.now in
-    let right : file_fault form bs ≡ None = sym c.in-default.ensures.fault in
+    let right : file_fault form bs ≡ None = sym c.in_default.ensures.fault in
     let few : leb (length bs / record_size) (length old) ≡ false = lt-leb (length bs / record_size) (length old) c.if-table-count.true in
     let none : load_check None (length bs / record_size) (length old) ≡ load_answer form bs (length old) =
     ap (λ f. load_check f (length bs / record_size) (length old)) (sym right) in
@@ -30,10 +30,10 @@ returns g c =
     let form = g.B.Body.form in
     let bs : List ℕ = c.args.bytes.now in
     let old = c.args.table.now in
-    let new = c.fill-table.new.table in
-    let right : file_fault form bs ≡ None = sym c.in-default.ensures.fault in
+    let new = c.fill_table.new.table in
+    let right : file_fault form bs ≡ None = sym c.in_default.ensures.fault in
     let room : leb (length bs / record_size) (length old) ≡ true = le-leb (length bs / record_size) (length old) c.if-table-count.false in
     let none : load_check None (length bs / record_size) (length old) ≡ load_answer form bs (length old) =
     ap (λ f. load_check f (length bs / record_size) (length old)) (sym right) in
     let is = sym (rw room) ∙ none in
-    record { answer = is; table = c.fill-table.ensures; undoes = load_undoes form g.met.B.Body.lawful bs old new _ is c.fill-table.ensures }
+    record { answer = is; table = c.fill_table.ensures; undoes = load_undoes form g.met.B.Body.lawful bs old new _ is c.fill_table.ensures }

@@ -20,5 +20,5 @@ loop-index-preserved g c =
     let bs : List ℕ = c.args.bytes.now in
     let i : ℕ = c.loop-index.index in
     let some : i < begun_records bs = search rules in
-    let right = sym (ap (wrong_front form) (next_part bs i)) ∙ sym c.in-default.ensures in
+    let right = sym (ap (wrong_front form) (next_part bs i)) ∙ sym c.in_default.ensures in
     sym (among_right form bs i (begun_records bs) some right) ∙ c.loop-index.invariant

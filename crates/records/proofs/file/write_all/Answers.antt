@@ -18,7 +18,7 @@ loop-index-preserved g c =
     let within : i < length ms = omega arith in
     let front : length (file_of form (take i ms)) ≡ record_size * i =
     length_file form laws (take i ms) ∙ ap (λ n. record_size * n) (length-take-le i ms (omega arith)) in
-    let written = ap (overlaid c.loop-index.out (record_size * i)) c.to-record.ensures in (
+    let written = ap (overlaid c.loop-index.out (record_size * i)) c.to_record.ensures in (
       omega (arith, c.put.auto.out, inv.0),
       c.put.ensures ∙ written ∙ save_more form ms c.args.out.now c.loop-index.out i m (record_long form laws m) front within c.index-letters-index.is inv.1,
     )

@@ -5,8 +5,8 @@ use Rattle.records.specs.Records.{record_size, wrong_front}
 use Rattle.records.proofs.RoundTrip.{front_short, front_whole, left_exact, read_undoes}
 use Rattle.records.proofs.record.read_front.Goals as goal
 
-pub returns-then-bytes-lt-RECORD-SIZE : goal.returns-then-bytes-lt-RECORD-SIZE
-returns-then-bytes-lt-RECORD-SIZE g c =
+pub returns-then-bytes-lt-RECORD_SIZE : goal.returns-then-bytes-lt-RECORD_SIZE
+returns-then-bytes-lt-RECORD_SIZE g c =
     let form = g.B.Body.form in
     let laws = g.met.B.Body.lawful in
     let bs : List ℕ = c.args.bytes.now in
@@ -25,7 +25,7 @@ returns g c =
     let long : record_size ≤ length bs = omega arith in
     let whole = front_whole form laws bs long in
     let old = parts c.args.stamp.now c.args.poster.now c.args.body.now in
-    let new = parts c.read-whole.new.stamp c.read-whole.new.poster c.read-whole.new.body in
-    let left = subst (LeftBy form (take record_size bs) old new) (sym whole) c.read-whole.ensures.left in
-    let is = c.read-whole.ensures.answer ∙ ap read_answer (sym whole) in
+    let new = parts c.read_whole.new.stamp c.read_whole.new.poster c.read_whole.new.body in
+    let left = subst (LeftBy form (take record_size bs) old new) (sym whole) c.read_whole.ensures.left in
+    let is = c.read_whole.ensures.answer ∙ ap read_answer (sym whole) in
     record { answer = is; filled = left_exact form laws bs old new left; undoes = read_undoes form laws bs old new left _ is }

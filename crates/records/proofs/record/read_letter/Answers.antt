@@ -9,14 +9,14 @@ make-requires g c =
     let form = g.B.Body.form in
     let laws = g.met.B.Body.lawful in
     let bs : List ℕ = c.args.bytes.now in
-    let new = parts c.read-stamp.result (poster_byte bs) c.read-body.result in
+    let new = parts c.read_stamp.result (poster_byte bs) c.read_body.result in
     made-check form laws new bs c.requires.size c.requires.right
-    (read_back form laws new bs c.requires.size c.requires.right c.read-stamp.ensures refl c.read-body.ensures.kind c.read-body.ensures.bytes)
+    (read_back form laws new bs c.requires.size c.requires.right c.read_stamp.ensures refl c.read_body.ensures.kind c.read_body.ensures.bytes)
 
 pub returns : goal.returns
 returns g c =
     let form = g.B.Body.form in
     let bs : List ℕ = c.args.bytes.now in
-    let new = parts c.read-stamp.result (poster_byte bs) c.read-body.result in
+    let new = parts c.read_stamp.result (poster_byte bs) c.read_body.result in
     ap (parts_record form) c.make.ensures
-    ∙ read_back form g.met.B.Body.lawful new bs c.requires.size c.requires.right c.read-stamp.ensures refl c.read-body.ensures.kind c.read-body.ensures.bytes
+    ∙ read_back form g.met.B.Body.lawful new bs c.requires.size c.requires.right c.read_stamp.ensures refl c.read_body.ensures.kind c.read_body.ensures.bytes

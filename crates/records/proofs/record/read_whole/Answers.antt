@@ -9,11 +9,11 @@ pub returns : goal.returns
 returns g c =
     let form = g.B.Body.form in
     let bs : List ℕ = c.args.bytes.now in
-    let none : wrong_byte form bs ≡ None = sym c.in-default.ensures in
+    let none : wrong_byte form bs ≡ None = sym c.in_default.ensures in
     let old = parts c.args.stamp.now c.args.poster.now c.args.body.now in
-    let new = parts c.read-stamp.result (poster_byte bs) c.read-body.result in
+    let new = parts c.read_stamp.result (poster_byte bs) c.read_body.result in
     record {
       answer = ap read_answer (sym none);
       left = subst (LeftBy form bs old new) (sym none)
-          (read_back form g.met.B.Body.lawful new bs c.requires none c.read-stamp.ensures refl c.read-body.ensures.kind c.read-body.ensures.bytes);
+          (read_back form g.met.B.Body.lawful new bs c.requires none c.read_stamp.ensures refl c.read_body.ensures.kind c.read_body.ensures.bytes);
     }

@@ -8,8 +8,8 @@ loop-seat-preserved c =
     let bs : List ℕ = c.args.bytes.now in
     let k : ℕ = c.loop-seat.seat in (
       search rules,
-      written_set bs c.loop-seat.entries k c.number-at.result (omega arith) (omega arith)
-          (omega (arith, c.type_inv.bytes (2 * k))) c.number-at.ensures c.loop-seat.invariant.1,
+      written_set bs c.loop-seat.entries k c.number_at.result (omega arith) (omega arith)
+          (omega (arith, c.type_inv.bytes (2 * k))) c.number_at.ensures c.loop-seat.invariant.1,
     )
 
 pub returns : goal.returns

@@ -11,10 +11,10 @@ loop-seat-preserved c =
     let entry : ℕ = get_or entries k 0 in
     let fits : entry < 65536 = search rules in
     let within : k < length entries = search rules in
-    let low : get_or c.to-le-bytes.result 0 0 ≡ entry % 256 = ap (λ r. get_or r 0 0) c.to-le-bytes.ensures in
-    let high : get_or c.to-le-bytes.result 1 0 ≡ entry / 256 = ap (λ r. get_or r 1 0) c.to-le-bytes.ensures ∙ (omega arith) in
+    let low : get_or c.to_le_bytes.result 0 0 ≡ entry % 256 = ap (λ r. get_or r 0 0) c.to_le_bytes.ensures in
+    let high : get_or c.to_le_bytes.result 1 0 ≡ entry / 256 = ap (λ r. get_or r 1 0) c.to_le_bytes.ensures ∙ (omega arith) in
     let place : 2 * (k + 1) ≡ 2 * k + 1 + 1 = omega arith in
-    let two = take_two_set bs (2 * k) (get_or c.to-le-bytes.result 0 0) (get_or c.to-le-bytes.result 1 0) (omega arith) in
+    let two = take_two_set bs (2 * k) (get_or c.to_le_bytes.result 0 0) (get_or c.to_le_bytes.result 1 0) (omega arith) in
     let more = written_more entries k within in
     let before = c.loop-seat.invariant.1 in
     (search rules, cc)

@@ -12,8 +12,8 @@ pub open-room-requires : goal.open-room-requires
 open-room-requires g c =
     (runnable (draft_state c.args.draft) (length c.args.logs.now) (length c.args.holds.now) (g.C.Carrier.meaning c.args.carrier.now) (length c.args.steps.now) (length c.args.replies.now) c.requires).opens
 
-pub step-all-requires : goal.step-all-requires
-step-all-requires g c =
+pub step_all-requires : goal.step_all-requires
+step_all-requires g c =
     (runnable (draft_state c.args.draft) (length c.args.logs.now) (length c.args.holds.now) (g.C.Carrier.meaning c.args.carrier.now) (length c.args.steps.now) (length c.args.replies.now) c.requires).answered
 
 pub returns : goal.returns
@@ -22,15 +22,15 @@ returns g c =
     let logs = c.args.logs.now in
     let holds = c.args.holds.now in
     let before = g.C.Carrier.meaning c.args.carrier.now in
-    let now = c.step-all.new in
+    let now = c.step_all.new in
     let trace = traced answer_of [] c.args.steps.now now.replies in
     let after = moment (state now.room) now.logs now.holds (g.C.Carrier.meaning now.carrier) in
     let can = runnable (draft_state d) (length logs) (length holds) before (length c.args.steps.now) (length c.args.replies.now) c.requires in
-    let leads = subst (λ (st : RoomState). Leads (moment st logs holds before) trace after) c.open-room.ensures c.step-all.ensures.leads in
+    let leads = subst (λ (st : RoomState). Leads (moment st logs holds before) trace after) c.open-room.ensures c.step_all.ensures.leads in
     let worked : Worked trace after = record { first = moment (opened (draft_state d)) logs holds before; opened = as_opened d logs holds before (g.C.Carrier.lawful c.args.carrier.now) _ _ can; led = leads } in
     record {
       leads = leads;
       worked = worked;
       keeps = always_keeps g.K.Sheet.kind g.met.K.Sheet.lawful trace after worked;
-      rest = c.step-all.ensures.rest;
+      rest = c.step_all.ensures.rest;
     }

@@ -4,11 +4,11 @@ use Rattle.seats.proofs.Searches.{first_on, first_found, first_none}
 use Rattle.seats.proofs.Readiness.{not_due, too_early, is_ready}
 use Rattle.seats.proofs.finding.first_ready.Goals as goal
 
-pub arrivals-preserved-then-not-is-due : goal.arrivals-preserved-then-not-is-due
-arrivals-preserved-then-not-is-due g c =
+pub arrivals-preserved-then-not-is_due : goal.arrivals-preserved-then-not-is_due
+arrivals-preserved-then-not-is_due g c =
     let m = c.index-hold-at.result in
     first_on _ c.args.hold.now c.arrivals.at _ c.arrivals.invariant m c.arrivals-test.true c.index-hold-at.is
-    (not_due c.args.count c.args.quota c.args.seat c.args.clock.now m (sym c.if-not-is-due.ensures))
+    (not_due c.args.count c.args.quota c.args.seat c.args.clock.now m (sym c.if-not-is_due.ensures))
 
 pub arrivals-preserved : goal.arrivals-preserved
 arrivals-preserved g c =
@@ -22,7 +22,7 @@ pub returns-in-arrivals : goal.returns-in-arrivals
 returns-in-arrivals g c =
     let m = c.index-hold-at.result in
     first_found _ c.args.hold.now c.arrivals.at _ c.arrivals.invariant m c.arrivals-test.true c.index-hold-at.is
-    (is_ready c.args.count c.args.quota c.args.seat c.args.clock.now m (sym c.if-not-is-due.ensures)
+    (is_ready c.args.count c.args.quota c.args.seat c.args.clock.now m (sym c.if-not-is_due.ensures)
     (λ p lt. c.loop-other.invariant p (omega arith)))
 
 pub returns : goal.returns

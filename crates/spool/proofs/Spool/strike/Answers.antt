@@ -10,12 +10,12 @@ use Rattle.spool.proofs.Kept.{each_closed, each_written}
 use Rattle.spool.proofs.Steps.{drawn_mask, drawn_row, turned_below}
 use Rattle.spool.proofs.Spool.strike.Goals as goal
 
-pub invariant-of-self : goal.invariant-of-self
-invariant-of-self g c =
+pub invariant_of-self : goal.invariant_of-self
+invariant_of-self g c =
     let s = c.args.self.now in
     let b = s.tape.bytes.now in
-    let a = c.close-up.new.self.bytes.now in
-    let e = c.close-up.ensures in (
+    let a = c.close_up.new.self.bytes.now in
+    let e = c.close_up.ensures in (
       s.some,
       (
         s.few,
@@ -32,17 +32,17 @@ invariant-of-self g c =
       ),
     )
 
-pub invariant-of-self-else-is-done : goal.invariant-of-self-else-is-done
-invariant-of-self-else-is-done g c =
+pub invariant_of-self-else-is_done : goal.invariant_of-self-else-is_done
+invariant_of-self-else-is_done g c =
     let s = c.args.self.now in
     let b = s.tape.bytes.now in
-    let a = c.set-mask.new.self.bytes.now in
+    let a = c.set_mask.new.self.bytes.now in
     let i = c.args.row in
     let seat = c.args.seat in
-    let e = c.set-mask.ensures in
+    let e = c.set_mask.ensures in
     let shl : (1 * 2 ^ seat) % 65536 ≡ 2 ^ seat = one_shl seat 16 (omega (arith, s.few, c.requires.seat)) in
     let turned : mask_of (row_at a i) ≡ bit_xor (mask_of (row_at b i)) (2 ^ seat) = e.mask ∙ ap (λ m. bit_xor m ((1 * 2 ^ seat) % 65536)) c.mask.ensures ∙ ap (bit_xor (mask_of (row_at b i))) shl in
-    let some : 0 < mask_of (row_at a i) = subst (λ m. 0 < m) (sym e.mask) (ones_some _ (eqb-false _ _ (sym c.is-done.ensures ∙ c.if-is-done.false))) in
+    let some : 0 < mask_of (row_at a i) = subst (λ m. 0 < m) (sym e.mask) (ones_some _ (eqb-false _ _ (sym c.is_done.ensures ∙ c.if-is_done.false))) in
     let few : mask_of (row_at a i) < 2 ^ s.seats = subst (λ m. m < 2 ^ s.seats) (sym turned) (turned_below s.seats (mask_of (row_at b i)) seat (s.seated i c.requires.row) c.requires.seat) in
     let same = kept_rows b a i e.only in (
       s.some,
@@ -61,30 +61,30 @@ invariant-of-self-else-is-done g c =
       ),
     )
 
-pub returns-then-is-done : goal.returns-then-is-done
-returns-then-is-done g c =
+pub returns-then-is_done : goal.returns-then-is_done
+returns-then-is_done g c =
     let s = c.args.self.now in
     let b = s.tape.bytes.now in
-    let a = c.close-up.new.self.bytes.now in
+    let a = c.close_up.new.self.bytes.now in
     let i = c.args.row in
     let seat = c.args.seat in
     let read = letter_of g.row.B-Body.form g.B.Stored.blank in
-    let e = c.close-up.ensures in
+    let e = c.close_up.ensures in
     let shl : (1 * 2 ^ seat) % 65536 ≡ 2 ^ seat = one_shl seat 16 (omega (arith, s.few, c.requires.seat)) in
     let turned : bit_xor c.mask.result ((1 * 2 ^ seat) % 65536) ≡ bit_xor (mask_of (row_at b i)) (2 ^ seat) = ap (λ m. bit_xor m ((1 * 2 ^ seat) % 65536)) c.mask.ensures ∙ ap (bit_xor (mask_of (row_at b i))) shl in
     let few : bit_xor c.mask.result ((1 * 2 ^ seat) % 65536) < 2 ^ s.seats = subst (λ m. m < 2 ^ s.seats) (sym turned) (turned_below s.seats (mask_of (row_at b i)) seat (s.seated i c.requires.row) c.requires.seat) in
-    let none : bit_xor (mask_of (row_at b i)) (2 ^ seat) ≡ 0 = sym turned ∙ ones_none s.seats _ (eqb-true _ _ (sym c.is-done.ensures ∙ c.if-is-done.true)) few in
+    let none : bit_xor (mask_of (row_at b i)) (2 ^ seat) ≡ 0 = sym turned ∙ ones_none s.seats _ (eqb-true _ _ (sym c.is_done.ensures ∙ c.if-is_done.true)) few in
     drawn_row read s.seats s.rows b a seat i c.requires.row c.requires.marked e.before e.behind none
 
-pub returns-else-is-done : goal.returns-else-is-done
-returns-else-is-done g c =
+pub returns-else-is_done : goal.returns-else-is_done
+returns-else-is_done g c =
     let s = c.args.self.now in
     let b = s.tape.bytes.now in
-    let a = c.set-mask.new.self.bytes.now in
+    let a = c.set_mask.new.self.bytes.now in
     let i = c.args.row in
     let seat = c.args.seat in
     let read = letter_of g.row.B-Body.form g.B.Stored.blank in
-    let e = c.set-mask.ensures in
+    let e = c.set_mask.ensures in
     let shl : (1 * 2 ^ seat) % 65536 ≡ 2 ^ seat = one_shl seat 16 (omega (arith, s.few, c.requires.seat)) in
     let turned : mask_of (row_at a i) ≡ bit_xor (mask_of (row_at b i)) (2 ^ seat) = e.mask ∙ ap (λ m. bit_xor m ((1 * 2 ^ seat) % 65536)) c.mask.ensures ∙ ap (bit_xor (mask_of (row_at b i))) shl in
     drawn_mask read s.seats s.rows b a seat i c.requires.row c.requires.marked (kept_rows b a i e.only) turned e.letter

@@ -6,5 +6,5 @@ use Rattle.spool.proofs.masks.all_but.Goals as goal
 
 pub returns : goal.returns
 returns c =
-    ap (λ m. bit_xor m (1 * 2 ^ c.args.poster % 65536)) c.full-mask.ensures
+    ap (λ m. bit_xor m (1 * 2 ^ c.args.poster % 65536)) c.full_mask.ensures
     ∙ ap (bit_xor (full c.args.seats)) (one_shl c.args.poster 16 c.requires.1)

@@ -9,8 +9,8 @@ push-requires g c =
     let end = queue_end l.size c.args.seat l.seats c.requires.0 in
     (omega (arith, l.whole), (c.requires.1, omega (arith, c.requires.1)))
 
-pub invariant-of-self : goal.invariant-of-self
-invariant-of-self g c =
+pub invariant_of-self : goal.invariant_of-self
+invariant_of-self g c =
     let l = c.args.self.now in (
       length-set _ _ _ ∙ l.table,
       (

@@ -9,8 +9,8 @@ remove-letter-requires g c =
     let end = queue_end l.size c.args.seat l.seats c.requires.0 in
     (omega (arith, l.whole), (c.requires.1, l.within c.args.seat))
 
-pub invariant-of-self : goal.invariant-of-self
-invariant-of-self g c =
+pub invariant_of-self : goal.invariant_of-self
+invariant_of-self g c =
     let l = c.args.self.now in
     let at_most = l.within c.args.seat in (
       length-set _ _ _ ∙ l.table,

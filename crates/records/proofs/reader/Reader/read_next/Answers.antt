@@ -44,7 +44,7 @@ returns-in-Err g c =
     let part = next_part c.args.self.now.bytes.now index in
     let some : 0 < length bs = omega (arith, length-drop (record_size * index) c.args.self.now.bytes.now) in
     let old = parts c.args.stamp.now c.args.poster.now c.args.body.now in
-    let new = parts c.read-record.new.stamp c.read-record.new.poster c.read-record.new.body in
+    let new = parts c.read_record.new.stamp c.read_record.new.poster c.read_record.new.body in
     let told = c.in-Err.ensures in
     let found = found_wrong form bs c.in-Err.byte old new some
     (told.answer ∙ ap (λ l. read_answer (wrong_front form l)) part)
@@ -65,8 +65,8 @@ returns g c =
     let part = next_part c.args.self.now.bytes.now index in
     let some : 0 < length bs = omega (arith, length-drop (record_size * index) c.args.self.now.bytes.now) in
     let old = parts c.args.stamp.now c.args.poster.now c.args.body.now in
-    let new = parts c.read-record.new.stamp c.read-record.new.poster c.read-record.new.body in
-    let told = c.in-default.ensures in
+    let new = parts c.read_record.new.stamp c.read_record.new.poster c.read_record.new.body in
+    let told = c.in_default.ensures in
     let found = found_right form bs old new some
     (told.answer ∙ ap (λ l. read_answer (wrong_front form l)) part)
     (told.filled ∙ ap (λ l. parts_left form l (wrong_front form l) old) part) in

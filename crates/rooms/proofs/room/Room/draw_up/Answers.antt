@@ -11,19 +11,19 @@ returns g c =
     let r = c.args.self.now in
     let kind = g.K.Sheet.kind in
     let logs = c.args.logs.now in
-    let log = c.log-part.result.now in
-    let drew = c.draw-up.ensures in
+    let log = c.log_part.result.now in
+    let drew = c.draw_up.ensures in
     let wide : r.count * r.quota ≤ kind.places = search rules in
-    let up = goes_up kind (state r) (sound r) logs (length c.args.holds.now) c.args.seat log c.in-ok-may-visit.ensures wide c.log-part.ensures in
+    let up = goes_up kind (state r) (sound r) logs (length c.args.holds.now) c.args.seat log c.in_ok-may_visit.ensures wide c.log_part.ensures in
     record {
       answer = drew.answer ∙ ap answered up.same;
       leaves = drew.leaves ∙ ap (λ o. left_by o (g.K.Sheet.meaning c.args.sheet.now)) up.same;
-      untouched = yes_kept c.draw-up.result _ _ (drew.answer ∙ ap answered up.accepted);
+      untouched = yes_kept c.draw_up.result _ _ (drew.answer ∙ ap answered up.accepted);
       keeps = always_keeps kind g.met.K.Sheet.lawful;
     }
 
-pub returns-in-err-may-visit : goal.returns-in-err-may-visit
-returns-in-err-may-visit g c = record {
+pub returns-in_err-may_visit : goal.returns-in_err-may_visit
+returns-in_err-may_visit g c = record {
   answer = search rules;
   leaves = search rules;
   untouched = search rules;

@@ -5,8 +5,8 @@ use Rattle.rooms.specs.States.{state}
 use Rattle.rooms.proofs.Rooms.{sound}
 use Rattle.rooms.proofs.room.Room.take.Goals as goal
 
-pub draw-and-keep-requires : goal.draw-and-keep-requires
-draw-and-keep-requires g c =
+pub draw_and_keep-requires : goal.draw_and_keep-requires
+draw_and_keep-requires g c =
     let r = c.args.self.now in
-    let can = served (state r) _ _ _ c.in-ok-may-carry.ensures in
+    let can = served (state r) _ _ _ c.in_ok-may_carry.ensures in
     (omega (arith, some_places (state r) (sound r), can.holds_long), sym c.seats.ensures ∙ can.seats_same)

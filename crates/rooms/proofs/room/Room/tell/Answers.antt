@@ -5,8 +5,8 @@ use Rattle.seats.specs.Seats.{blank}
 use Rattle.seats.proofs.Tables.{set_each, set-each_below}
 use Rattle.rooms.proofs.room.Room.tell.Goals as goal
 
-pub invariant-of-self : goal.invariant-of-self
-invariant-of-self c =
+pub invariant_of-self : goal.invariant_of-self
+invariant_of-self c =
     let r = c.args.self.now in
     let told = c.requires.0 in
     let whole = set-each_below (λ x. length x.clock.entries ≡ 16) blank 16 r.seats c.args.s c.args.seat told.whole r.whole in

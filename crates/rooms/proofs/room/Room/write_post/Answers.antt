@@ -7,7 +7,7 @@ pub returns : goal.returns
 returns g c =
     let s = c.args.seat in
     let m = c.make.result in
-    let noted = c.note-post-stamp.ensures in
+    let noted = c.note_post-stamp.ensures in
     record {
       docket = c.newest.ensures ∙ ap (λ st. slip_of st s) noted.room;
       room = noted.room;

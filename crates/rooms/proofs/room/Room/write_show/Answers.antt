@@ -6,23 +6,23 @@ use Rattle.rooms.proofs.Rooms.{sound}
 use Rattle.rooms.proofs.Showing.{closed_up}
 use Rattle.rooms.proofs.room.Room.write_show.Goals as goal
 
-pub overflow-sub-behind : goal.overflow-sub-behind
-overflow-sub-behind g c =
+pub overflow_sub-behind : goal.overflow_sub-behind
+overflow_sub-behind g c =
     let can = showable (state c.args.self.now) (sound c.args.self.now) _ c.args.seat _ _ _ c.requires.0 c.requires.1 in
     omega (arith, can.there)
 
-pub overflow-sub-behind-2 : goal.overflow-sub-behind-2
-overflow-sub-behind-2 g c =
+pub overflow_sub-behind-2 : goal.overflow_sub-behind-2
+overflow_sub-behind-2 g c =
     let can = showable (state c.args.self.now) (sound c.args.self.now) _ c.args.seat _ _ _ c.requires.0 c.requires.1 in
     omega (arith, can.there)
 
-pub overflow-add-start : goal.overflow-add-start
-overflow-add-start g c =
+pub overflow_add-start : goal.overflow_add-start
+overflow_add-start g c =
     let can = showable (state c.args.self.now) (sound c.args.self.now) _ c.args.seat _ _ _ c.requires.0 c.requires.1 in
     omega (arith, can.there, can.hold_end, c.start-start.ensures)
 
-pub note-show-requires : goal.note-show-requires
-note-show-requires g c =
+pub note_show-requires : goal.note_show-requires
+note_show-requires g c =
     let at = visited (state c.args.self.now) _ _ c.args.seat c.requires.0 in
     let can = showable (state c.args.self.now) (sound c.args.self.now) _ c.args.seat _ _ _ c.requires.0 c.requires.1 in
     (at.inside, (can.poster, can.few))
@@ -34,7 +34,7 @@ returns g c =
     let k = c.args.at in
     let can = showable st (sound c.args.self.now) _ s _ _ _ c.requires.0 c.requires.1 in
     record {
-      room = c.note-show.ensures;
+      room = c.note_show.ensures;
       logs = c.put.ensures ∙ ap (λ i. set c.args.logs.now i c.args.letter.now) c.foot-foot.ensures;
-      holds = closed_up c.args.holds.now _ c.start-start.result (start st s) k _ c.start-start.ensures (omega (arith, can.there, can.hold_end)) c.close-up.ensures;
+      holds = closed_up c.args.holds.now _ c.start-start.result (start st s) k _ c.start-start.ensures (omega (arith, can.there, can.hold_end)) c.close_up.ensures;
     }

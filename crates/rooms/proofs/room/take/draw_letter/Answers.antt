@@ -4,13 +4,13 @@ use Rattle.rooms.proofs.room.take.draw_letter.Goals as goal
 
 pub make-requires : goal.make-requires
 make-requires g c =
-    let drew = c.in-ok-draw.ensures in
+    let drew = c.in_ok-draw.ensures in
     drawn_can_be (g.C.Carrier.meaning c.args.carrier.now) c.args.seat c.args.place c.args.spare _
     (parts c.draw.new.stamp c.draw.new.poster c.draw.new.body) drew.answer drew.leaves.1
 
 pub returns : goal.returns
 returns g c =
-    let drew = c.in-ok-draw.ensures in
+    let drew = c.in_ok-draw.ensures in
     record {
       answer = drew.answer;
       leaves = (

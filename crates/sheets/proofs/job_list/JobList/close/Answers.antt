@@ -2,8 +2,8 @@ use Rattle.std.proofs.Common.{refl, arith, rules}
 use Rattle.sheets.proofs.Jobs.{closing, not_open}
 use Rattle.sheets.proofs.job_list.JobList.close.Goals as goal
 
-pub invariant-of-self : goal.invariant-of-self
-invariant-of-self c =
+pub invariant_of-self : goal.invariant_of-self
+invariant_of-self c =
     let s = c.args.self.now in
     let after = closing s c.args.poster c.args.number c.place-at.result (cc) (omega arith) _ c.remove.ensures in
     (search rules, (omega (arith, s.few), (s.fit, (after.1, tt))))

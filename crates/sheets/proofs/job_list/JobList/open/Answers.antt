@@ -2,8 +2,8 @@ use Rattle.std.proofs.Common.{take, arith, rules}
 use Rattle.sheets.proofs.Opening.{opening}
 use Rattle.sheets.proofs.job_list.JobList.open.Goals as goal
 
-pub invariant-of-self : goal.invariant-of-self
-invariant-of-self c =
+pub invariant_of-self : goal.invariant_of-self
+invariant_of-self c =
     let s = c.args.self.now in
     let after = opening c.args.job (take s.len s.rows) _ _ s.ordered c.close.ensures.jobs c.insert.ensures in
     (search rules, (omega arith, (search rules, (after.1, tt))))

@@ -3,16 +3,16 @@ use Rattle.sheets.specs.JobLists.{is_other, open_job}
 use Rattle.sheets.proofs.Scans.{scan_more, scan_stop, scan_all}
 use Rattle.sheets.proofs.job_list.entering.place.Goals as goal
 
-pub returns-then-has-name : goal.returns-then-has-name
-returns-then-has-name c =
+pub returns-then-has_name : goal.returns-then-has_name
+returns-then-has_name c =
     let place = scan_stop (is_other c.args.poster c.args.number) c.args.jobs.now c.loop-i.i (open_job 0 0 0)
-    c.loop-i-test.true (ap not (sym c.if-has-name.ensures)) c.loop-i.invariant in
+    c.loop-i-test.true (ap not (sym c.if-has_name.ensures)) c.loop-i.invariant in
     record { place = place; within = omega arith }
 
 pub loop-i-preserved : goal.loop-i-preserved
 loop-i-preserved c =
     scan_more (is_other c.args.poster c.args.number) c.args.jobs.now c.loop-i.i (open_job 0 0 0)
-    c.loop-i-test.true (ap not (sym c.if-has-name.ensures)) c.loop-i.invariant
+    c.loop-i-test.true (ap not (sym c.if-has_name.ensures)) c.loop-i.invariant
 
 pub returns : goal.returns
 returns c =

@@ -15,20 +15,20 @@ use Rattle.spool.proofs.Kept.{each_written}
 use Rattle.spool.proofs.Steps.{spooled, nobody_else, but_below}
 use Rattle.spool.proofs.carrying.SpoolCarrier.put.Goals as goal
 
-pub invariant-of-self : goal.invariant-of-self
-invariant-of-self g c =
+pub invariant_of-self : goal.invariant_of-self
+invariant_of-self g c =
     let s = c.args.self.now in
     let b = s.tape.bytes.now in
     let mid = c.write.new.self.bytes.now in
-    let a = c.set-mask.new.self.bytes.now in
+    let a = c.set_mask.new.self.bytes.now in
     let poster = c.poster-poster.result in
-    let mask = c.all-but-mask.result in
-    let long : length a ≡ length b = c.set-mask.ensures.long ∙ c.write.ensures.long in
+    let mask = c.all_but-mask.result in
+    let long : length a ≡ length b = c.set_mask.ensures.long ∙ c.write.ensures.long in
     let room : s.rows * 98 + 98 ≤ length b = leb-true _ _ (and_parts (ltb poster s.seats) (row_fits s.rows (length b)) (sym c.fits.ensures ∙ c.if-not-fits.false)).1 in
-    let is : mask_of (row_at a s.rows) ≡ mask = c.set-mask.ensures.mask in
-    let some : 0 < mask = ones_some _ (eqb-false _ _ (sym c.is-done.ensures ∙ c.if-not-is-done.true)) in
-    let few : mask < 2 ^ s.seats = subst (λ m. m < 2 ^ s.seats) (sym c.all-but-mask.ensures) (but_below s.seats poster c.if-poster-self.false) in
-    let same : (r : ℕ) → ¬ (r ≡ s.rows) → row_at a r ≡ row_at b r = λ r ne. kept_rows mid a s.rows c.set-mask.ensures.only r ne ∙ kept_rows b mid s.rows c.write.ensures.only r ne in (
+    let is : mask_of (row_at a s.rows) ≡ mask = c.set_mask.ensures.mask in
+    let some : 0 < mask = ones_some _ (eqb-false _ _ (sym c.is_done.ensures ∙ c.if-not-is_done.true)) in
+    let few : mask < 2 ^ s.seats = subst (λ m. m < 2 ^ s.seats) (sym c.all_but-mask.ensures) (but_below s.seats poster c.if-poster-self.false) in
+    let same : (r : ℕ) → ¬ (r ≡ s.rows) → row_at a r ≡ row_at b r = λ r ne. kept_rows mid a s.rows c.set_mask.ensures.only r ne ∙ kept_rows b mid s.rows c.write.ensures.only r ne in (
       s.some,
       (
         s.few,
@@ -45,36 +45,36 @@ invariant-of-self g c =
       ),
     )
 
-pub returns-then-not-is-done : goal.returns-then-not-is-done
-returns-then-not-is-done g c =
+pub returns-then-not-is_done : goal.returns-then-not-is_done
+returns-then-not-is_done g c =
     let s = c.args.self.now in
     let b = s.tape.bytes.now in
     let mid = c.write.new.self.bytes.now in
-    let a = c.set-mask.new.self.bytes.now in
+    let a = c.set_mask.new.self.bytes.now in
     let x = c.args.letter.now in
     let form = g.row.B-Body.form in
     let blank = g.B.Stored.blank in
     let read = letter_of form blank in
     let is = c.poster-poster.ensures in
     let m = spool_of form blank s in
-    let mask_is : c.all-but-mask.result ≡ all_but s.seats x.poster = c.all-but-mask.ensures ∙ ap (all_but s.seats) is in
+    let mask_is : c.all_but-mask.result ≡ all_but s.seats x.poster = c.all_but-mask.ensures ∙ ap (all_but s.seats) is in
     let exact = spooled read s.seats s.rows b a x.poster x (subst (λ p. p < s.seats) is c.if-poster-self.false)
-    (λ r l. kept_rows mid a s.rows c.set-mask.ensures.only r (omega arith) ∙ kept_rows b mid s.rows c.write.ensures.only r (omega arith))
-    (c.set-mask.ensures.mask ∙ mask_is)
-    (ap read (c.set-mask.ensures.letter ∙ c.write.ensures.letter) ∙ letter_back blank form g.met.B.Body.lawful x) in
+    (λ r l. kept_rows mid a s.rows c.set_mask.ensures.only r (omega arith) ∙ kept_rows b mid s.rows c.write.ensures.only r (omega arith))
+    (c.set_mask.ensures.mask ∙ mask_is)
+    (ap read (c.set_mask.ensures.letter ∙ c.write.ensures.letter) ∙ letter_back blank form g.met.B.Body.lawful x) in
     record {
       answer = sym (ap (put_answer m) (sym is) ∙ put_ok m c.poster-poster.result c.if-poster-self.false (sym c.fits.ensures ∙ c.if-not-fits.false));
       leaves = put_appended m (spool_meaning read s.seats (s.rows + 1) a) x.poster x refl exact;
       exact = exact;
       row = (
-        sym (ap (λ n. cond (eqb (ones n) 0) s.rows (s.rows + 1)) (sym mask_is) ∙ cond-false _ _ _ (sym c.is-done.ensures ∙ c.if-not-is-done.true)),
-        λ r low high. let at : s.rows ≡ r = omega arith in subst (λ j. mask_of (row_at a j) ≡ all_but s.seats x.poster) at (c.set-mask.ensures.mask ∙ mask_is),
+        sym (ap (λ n. cond (eqb (ones n) 0) s.rows (s.rows + 1)) (sym mask_is) ∙ cond-false _ _ _ (sym c.is_done.ensures ∙ c.if-not-is_done.true)),
+        λ r low high. let at : s.rows ≡ r = omega arith in subst (λ j. mask_of (row_at a j) ≡ all_but s.seats x.poster) at (c.set_mask.ensures.mask ∙ mask_is),
       );
       kept = tt;
     }
 
-pub returns-else-not-is-done : goal.returns-else-not-is-done
-returns-else-not-is-done g c =
+pub returns-else-not-is_done : goal.returns-else-not-is_done
+returns-else-not-is_done g c =
     let s = c.args.self.now in
     let b = s.tape.bytes.now in
     let x = c.args.letter.now in
@@ -82,16 +82,16 @@ returns-else-not-is-done g c =
     let blank = g.B.Stored.blank in
     let is = c.poster-poster.ensures in
     let m = spool_of form blank s in
-    let mask_is : c.all-but-mask.result ≡ all_but s.seats x.poster = c.all-but-mask.ensures ∙ ap (all_but s.seats) is in
-    let few : c.all-but-mask.result < 2 ^ s.seats = subst (λ m. m < 2 ^ s.seats) (sym c.all-but-mask.ensures) (but_below s.seats c.poster-poster.result c.if-poster-self.false) in
-    let none : c.all-but-mask.result ≡ 0 = ones_none s.seats _ (eqb-true _ _ (sym c.is-done.ensures ∙ c.if-not-is-done.false)) few in
+    let mask_is : c.all_but-mask.result ≡ all_but s.seats x.poster = c.all_but-mask.ensures ∙ ap (all_but s.seats) is in
+    let few : c.all_but-mask.result < 2 ^ s.seats = subst (λ m. m < 2 ^ s.seats) (sym c.all_but-mask.ensures) (but_below s.seats c.poster-poster.result c.if-poster-self.false) in
+    let none : c.all_but-mask.result ≡ 0 = ones_none s.seats _ (eqb-true _ _ (sym c.is_done.ensures ∙ c.if-not-is_done.false)) few in
     let exact = nobody_else (letter_of form blank) s.seats s.rows b x.poster x (subst (λ p. p < s.seats) is c.if-poster-self.false) (sym mask_is ∙ none) in
     record {
       answer = sym (ap (put_answer m) (sym is) ∙ put_ok m c.poster-poster.result c.if-poster-self.false (sym c.fits.ensures ∙ c.if-not-fits.false));
       leaves = put_appended m m x.poster x refl exact;
       exact = exact;
       row = (
-        sym (ap (λ n. cond (eqb (ones n) 0) s.rows (s.rows + 1)) (sym mask_is) ∙ cond-true _ _ _ (sym c.is-done.ensures ∙ c.if-not-is-done.false)),
+        sym (ap (λ n. cond (eqb (ones n) 0) s.rows (s.rows + 1)) (sym mask_is) ∙ cond-true _ _ _ (sym c.is_done.ensures ∙ c.if-not-is_done.false)),
         λ r low high. absurd (omega arith),
       );
       kept = tt;

@@ -24,7 +24,7 @@ loop-row-preserved g c =
     elim c.if-marks.branch [
       | then-marks w ↦
           let more = picks_yes (marks_at b seat) (letters_at (letter_of g.row.B-Body.form g.B.Stored.blank) b) row (sym test ∙ w.if-marks.true) in
-          w.count-is ∙ w.saturating-add-count.ensures ∙ omega (arith, more, inv)
+          w.count-is ∙ w.saturating_add-count.ensures ∙ omega (arith, more, inv)
       | else-marks w ↦
           let same = picks_not (marks_at b seat) (letters_at (letter_of g.row.B-Body.form g.B.Stored.blank) b) row (sym test ∙ w.if-marks.false) in
           w.count-is ∙ inv ∙ ap (λ n. min n (2 ^ 32 - 1)) (sym same)

@@ -3,4 +3,4 @@ use Rattle.spool.proofs.Bytes.{mask_at}
 use Rattle.spool.proofs.tape.Tape.mask.Goals as goal
 
 pub returns : goal.returns
-returns c = let whole = mask_at c.args.self.now.bytes.now c.args.row in let e = c.from-le-bytes.ensures in omega arith
+returns c = let whole = mask_at c.args.self.now.bytes.now c.args.row in let e = c.from_le_bytes.ensures in omega arith

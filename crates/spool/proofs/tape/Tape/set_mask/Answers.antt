@@ -6,8 +6,8 @@ pub returns : goal.returns
 returns c =
     let b = c.args.self.now.bytes.now in
     let fits : c.args.mask < 65536 = search rules in
-    let low : get_or c.to-le-bytes.result 0 0 ≡ c.args.mask % 256 = ap (λ r. get_or r 0 0) c.to-le-bytes.ensures in
-    let high : get_or c.to-le-bytes.result 1 0 ≡ c.args.mask / 256 = ap (λ r. get_or r 1 0) c.to-le-bytes.ensures ∙ omega arith in
+    let low : get_or c.to_le_bytes.result 0 0 ≡ c.args.mask % 256 = ap (λ r. get_or r 0 0) c.to_le_bytes.ensures in
+    let high : get_or c.to_le_bytes.result 1 0 ≡ c.args.mask / 256 = ap (λ r. get_or r 1 0) c.to_le_bytes.ensures ∙ omega arith in
     record {
       long = length_ending b c.args.row _ _ c.requires;
       only = only_ending b c.args.row _ _ c.requires;

@@ -9,12 +9,12 @@ pub returns : goal.returns
 returns g c =
     let b = c.args.self.now.bytes.now in
     let at = c.args.row * 98 in
-    let part = c.write-letter.new.into in
+    let part = c.write_letter.new.into in
     let fits : at + 96 ≤ length b = omega (arith, c.requires) in
-    let size : length part ≡ 96 = ap length c.write-letter.ensures ∙ record_long g.row.B-Body.form g.met.B.Body.lawful c.args.letter.now in
+    let size : length part ≡ 96 = ap length c.write_letter.ensures ∙ record_long g.row.B-Body.form g.met.B.Body.lawful c.args.letter.now in
     let long : length part ≡ cut at 96 b fits = omega arith in
     record {
       long = search rules;
       only = only_wider at 96 98 b _ (omega arith) (only_part at 96 b fits part long);
-      letter = record_at _ c.args.row ∙ queue_in_part at 96 b fits part long 96 (omega arith) ∙ take_all 96 part (omega arith) ∙ c.write-letter.ensures;
+      letter = record_at _ c.args.row ∙ queue_in_part at 96 b fits part long 96 (omega arith) ∙ take_all 96 part (omega arith) ∙ c.write_letter.ensures;
     }

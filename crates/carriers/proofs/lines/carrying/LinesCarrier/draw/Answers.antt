@@ -29,7 +29,7 @@ returns g c =
     let e = c.take-letter.ensures in
     record {
       answer = sym (draw_ok (lines_of l) seat place c.if-seat-self.false (omega (arith, long, at_most, c.if-place-self.false)));
-      leaves = (e.lists, c.hand-out.ensures ∙ ap parts_of e.taken ∙ sym (get_or-map parts_of ((lines_of l).waiting seat) place _ _ inside));
+      leaves = (e.lists, c.hand_out.ensures ∙ ap parts_of e.taken ∙ sym (get_or-map parts_of ((lines_of l).waiting seat) place _ _ inside));
       size = e.size;
       kept = tt;
     }
