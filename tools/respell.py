@@ -22,6 +22,9 @@ TYPED = re.compile(rf"^\s*(?:pub |abbrev |unfoldable )*(?:data|record) ({FULL})"
 # functions of the library whose lemmas are called LEFT-RIGHT
 KNOWN = set("length take drop append map filter reverse replicate set get_or sum remove".split())
 
+# files that answer goals: what follows `c.` or `w.` there is a name that the checker made
+GOALS = ("Answers.antt", "Invariants.antt", "Proof.antt", "Choices.antt")
+
 
 def code_parts(text, line_comment):
     """The text in pieces: (is code, piece)."""
@@ -68,7 +71,7 @@ def main():
     defined, in_specs, functions = set(), set(), set(KNOWN)
     for p in antt:
         of_specs = "/specs/" in str(p)
-        goals = not of_specs and p.name in ("Answers.antt", "Invariants.antt", "Proof.antt", "Choices.antt")
+        goals = not of_specs and p.name in GOALS
         for line in texts[p].split("\n"):
             if line.lstrip().startswith("--"):
                 continue
@@ -104,9 +107,10 @@ def main():
 
     changed = 0
     for p, text in texts.items():
+        made = re.compile(r"\b(?:c|w|goal|need|choice)\.$") if p.name in GOALS else re.compile(r"\b(?:goal|need|choice)\.$")
+
         def turn(m):
-            before = m.string[: m.start()]
-            if re.search(r"\b(?:c|w|goal|need|choice)\.$", before):
+            if made.search(m.string[: m.start()]):
                 return m.group(0)
             return spelt.get(m.group(0), m.group(0))
         mark = "//" if p.suffix == ".rt" else "--"

@@ -116,7 +116,7 @@ module _ {B : Type 0} (trace : Trace B) (w : Moment B) (life : Lives trace w) wh
   delivery_kept : (s : ℕ) → s < N → Settled w s → Complete trace w s
   delivery_kept s lt settled = record {
     log = λ i body. (
-      λ c. in_as (λ j. posting (sym c.called j) (sym c.with-body j)) (was_given c.letter ((all.log c.letter).0 c.inside)),
+      λ c. in_as (λ j. posting (sym c.called j) (sym c.with_body j)) (was_given c.letter ((all.log c.letter).0 c.inside)),
       λ i.
           let o = of_map given _ (posted_letters h) (in_eq (sym life.postings_are) i) in
           record {

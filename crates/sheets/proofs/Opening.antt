@@ -81,8 +81,8 @@ module _ (x : OpenJob) where
             let far = past r rs b.not_ahead both.0 in
             simp (b.not_ahead, b.is_behind, b.differs, far.none_ahead, far.all_behind, far.all_other)
         | inr (inr c) ↦
-            let far = past r rs c.not-ahead both.0 in
-            simp (c.not-ahead, c.not_behind, c.same, far.none_ahead, far.all_behind, far.all_other) (placed_first r rs c.not-ahead both.0)
+            let far = past r rs c.not_ahead both.0 in
+            simp (c.not_ahead, c.not_behind, c.same, far.none_ahead, far.all_behind, far.all_other) (placed_first r rs c.not_ahead both.0)
       ]
 
   all_after_join : (r : OpenJob) (ks bs : List OpenJob) → all_after r ks ≡ true → job_after x r ≡ true → all_after r bs ≡ true → all_after r (ks ++ x ∷ bs) ≡ true
