@@ -11,25 +11,16 @@ push-requires g c =
 
 pub invariant_of-self : goal.invariant_of-self
 invariant_of-self g c =
-    let l = c.args.self.now in (
-      length-set _ _ _ ∙ l.table,
-      (
-        l.some,
-        (
-          l.few,
-          (
-            l.sized,
-            (
-              subst (λ n. l.seats * l.size ≤ n) (sym c.push.ensures.long) l.whole,
-              (
-                within_set l.counts c.args.seat _ l.size (omega (arith, c.requires.1)) l.within,
-                (beyond_set l.counts c.args.seat _ l.seats c.requires.0 l.beyond, tt),
-              ),
-            ),
-          ),
-        ),
-      ),
-    )
+    let l = c.args.self.now in
+    record {
+      table = length-set _ _ _ ∙ l.table;
+      some = l.some;
+      few = l.few;
+      sized = l.sized;
+      whole = subst (λ n. l.seats * l.size ≤ n) (sym c.push.ensures.long) l.whole;
+      within = within_set l.counts c.args.seat _ l.size (omega (arith, c.requires.1)) l.within;
+      beyond = beyond_set l.counts c.args.seat _ l.seats c.requires.0 l.beyond;
+    }
 
 pub returns : goal.returns
 returns g c =

@@ -12,25 +12,16 @@ remove-letter-requires g c =
 pub invariant_of-self : goal.invariant_of-self
 invariant_of-self g c =
     let l = c.args.self.now in
-    let at_most = l.within c.args.seat in (
-      length-set _ _ _ ∙ l.table,
-      (
-        l.some,
-        (
-          l.few,
-          (
-            l.sized,
-            (
-              subst (λ n. l.seats * l.size ≤ n) (sym c.remove-letter.ensures.long) l.whole,
-              (
-                within_set l.counts c.args.seat _ l.size (omega (arith, at_most)) l.within,
-                (beyond_set l.counts c.args.seat _ l.seats c.requires.0 l.beyond, tt),
-              ),
-            ),
-          ),
-        ),
-      ),
-    )
+    let at_most = l.within c.args.seat in
+    record {
+      table = length-set _ _ _ ∙ l.table;
+      some = l.some;
+      few = l.few;
+      sized = l.sized;
+      whole = subst (λ n. l.seats * l.size ≤ n) (sym c.remove-letter.ensures.long) l.whole;
+      within = within_set l.counts c.args.seat _ l.size (omega (arith, at_most)) l.within;
+      beyond = beyond_set l.counts c.args.seat _ l.seats c.requires.0 l.beyond;
+    }
 
 pub returns : goal.returns
 returns g c =
