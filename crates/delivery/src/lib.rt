@@ -23,7 +23,7 @@ pub fn put_and_draw<C: Carrier>(
     poster: &mut u8,
     body: &mut C::Body,
 ) -> Result<(), Refusal>
-    ensures { Passes (put_answer (meaning carrier.old) letter.now.poster) (meaning carrier.old) letter.now seat (parts stamp.old poster.old body.old) result (meaning carrier.new) (parts stamp.new poster.new body.new) }
+    ensures { Passes (put_answer (C.meaning carrier.old) letter.now.poster) (C.meaning carrier.old) letter.now seat (parts stamp.old poster.old body.old) result (C.meaning carrier.new) (parts stamp.new poster.new body.new) }
 {
     carrier.put(letter)?;
     carrier.draw(seat, 0, stamp, poster, body)
