@@ -13,14 +13,14 @@ use letters::refusal::Refusal;
 
 // The first fault of a file. One without fault is a whole number of records.
 fn first_fault<B: Body>(bytes: &[u8]) -> Option<Fault>
-    ensures fault { result ≡ file_fault form bytes.now }
+    ensures fault { result ≡ file_fault B.form bytes.now }
     ensures whole { result ≡ None → 96 * (length bytes.now / 96) ≡ length bytes.now }
 {
     scan_faults::<B>(bytes)
 }
 
 fn scan_faults<B: Body>(bytes: &[u8]) -> Option<Fault>
-    ensures { result ≡ file_fault form bytes.now }
+    ensures { result ≡ file_fault B.form bytes.now }
 {
     let begun = bytes.len().div_ceil(RECORD_SIZE);
     for index in 0..begun {
@@ -43,8 +43,8 @@ fn set_letter<B: Body>(table: &mut [Letter<B>], place: usize, letter: Letter<B>)
 fn fill_table<B: Body>(bytes: &[u8], table: &mut [Letter<B>], count: usize)
     requires whole { 96 * count ≡ length bytes.now }
     requires places { count ≤ length table.old }
-    requires right { file_fault form bytes.now ≡ None }
-    ensures { Loaded form bytes.now table.old table.new (Ok count) }
+    requires right { file_fault B.form bytes.now ≡ None }
+    ensures { Loaded B.form bytes.now table.old table.new (Ok count) }
 {
     for index in 0..count {
         let at = RECORD_SIZE * index;
@@ -56,13 +56,13 @@ fn fill_table<B: Body>(bytes: &[u8], table: &mut [Letter<B>], count: usize)
 // Reads a whole file into the front of a table and answers how many letters there were.
 // It looks first: on a no, the table is as it was.
 pub fn load<B: Body>(bytes: &[u8], table: &mut [Letter<B>]) -> Result<usize, LoadRefusal>
-    ensures { FileLoaded form bytes.now table.old table.new result }
+    ensures { FileLoaded B.form bytes.now table.old table.new result }
 {
     look_and_fill(bytes, table)
 }
 
 fn look_and_fill<B: Body>(bytes: &[u8], table: &mut [Letter<B>]) -> Result<usize, LoadRefusal>
-    ensures { FileLoaded form bytes.now table.old table.new result }
+    ensures { FileLoaded B.form bytes.now table.old table.new result }
 {
     if let Some(fault) = first_fault::<B>(bytes) {
         return Err(LoadRefusal::Bad(fault));
@@ -79,7 +79,7 @@ fn look_and_fill<B: Body>(bytes: &[u8], table: &mut [Letter<B>]) -> Result<usize
 // A buffer with fewer is refused with 5 and stays as it was.
 pub fn save<B: Body>(letters: &[Letter<B>], out: &mut [u8]) -> Result<usize, Refusal>
     ensures answer { told (λ n. n) result ≡ save_answer (length letters.now) (length out.old) }
-    ensures buffer { out.new ≡ saved form letters.now out.old }
+    ensures buffer { out.new ≡ saved B.form letters.now out.old }
 {
     if out.len() / RECORD_SIZE < letters.len() {
         return Err(Refusal::TooShort);
@@ -91,7 +91,7 @@ pub fn save<B: Body>(letters: &[Letter<B>], out: &mut [u8]) -> Result<usize, Ref
 // Writes the letters' records one after another from the front on.
 fn write_all<B: Body>(letters: &[Letter<B>], out: &mut [u8])
     requires { 96 * length letters.now ≤ length out.old }
-    ensures { out.new ≡ file_of form letters.now ++ drop (96 * length letters.now) out.old }
+    ensures { out.new ≡ file_of B.form letters.now ++ drop (96 * length letters.now) out.old }
 {
     for (index, letter) in letters.iter().enumerate() {
         put(out, RECORD_SIZE * index, &to_record(letter));

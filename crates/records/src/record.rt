@@ -16,7 +16,7 @@ pub const RECORD_SIZE: usize = 96;
 
 // The letter's record.
 pub fn to_record<B: Body>(letter: &Letter<B>) -> [u8; RECORD_SIZE]
-    ensures { result ≡ record_of form letter.now }
+    ensures { result ≡ record_of B.form letter.now }
 {
     let body = letter.body();
     let header = [letter.poster(), body.kind(), body.len(), 0];
@@ -40,7 +40,7 @@ pub fn read_record<B: Body>(
     poster: &mut u8,
     body: &mut B,
 ) -> Result<(), u8>
-    ensures { RecordRead form bytes.now (parts stamp.old poster.old body.old) (parts stamp.new poster.new body.new) result }
+    ensures { RecordRead B.form bytes.now (parts stamp.old poster.old body.old) (parts stamp.new poster.new body.new) result }
 {
     read_front(bytes, stamp, poster, body)
 }
@@ -51,7 +51,7 @@ fn read_front<B: Body>(
     poster: &mut u8,
     body: &mut B,
 ) -> Result<(), u8>
-    ensures { RecordRead form bytes.now (parts stamp.old poster.old body.old) (parts stamp.new poster.new body.new) result }
+    ensures { RecordRead B.form bytes.now (parts stamp.old poster.old body.old) (parts stamp.new poster.new body.new) result }
 {
     if bytes.len() < RECORD_SIZE {
         return Err(bytes.len() as u8);
@@ -67,8 +67,8 @@ fn read_whole<B: Body>(
     body: &mut B,
 ) -> Result<(), u8>
     requires { length bytes.now ≡ 96 }
-    ensures answer { result ≡ read_answer (wrong_byte form bytes.now) }
-    ensures left { LeftBy form bytes.now (parts stamp.old poster.old body.old) (parts stamp.new poster.new body.new) (wrong_byte form bytes.now) }
+    ensures answer { result ≡ read_answer (wrong_byte B.form bytes.now) }
+    ensures left { LeftBy B.form bytes.now (parts stamp.old poster.old body.old) (parts stamp.new poster.new body.new) (wrong_byte B.form bytes.now) }
 {
     if let Some(place) = wrong_byte::<B>(bytes) {
         return Err(place);
@@ -82,9 +82,9 @@ fn read_whole<B: Body>(
 // The body of a record in which nothing is wrong.
 fn read_body<B: Body>(bytes: &[u8]) -> B
     requires size { length bytes.now ≡ 96 }
-    requires right { wrong_byte form bytes.now ≡ None }
-    ensures kind { form.kind result ≡ kind_byte bytes.now }
-    ensures bytes { form.bytes result ≡ body_part bytes.now }
+    requires right { wrong_byte B.form bytes.now ≡ None }
+    ensures kind { B.form.kind result ≡ kind_byte bytes.now }
+    ensures bytes { B.form.bytes result ≡ body_part bytes.now }
 {
     let len = bytes[34] as usize;
     B::read(bytes[33], &bytes[36..36 + len])
@@ -93,15 +93,15 @@ fn read_body<B: Body>(bytes: &[u8]) -> B
 // The letter of a record in which nothing is wrong.
 pub(crate) fn read_letter<B: Body>(bytes: &[u8]) -> Letter<B>
     requires size { length bytes.now ≡ 96 }
-    requires right { wrong_byte form bytes.now ≡ None }
-    ensures { record_of form result ≡ bytes.now }
+    requires right { wrong_byte B.form bytes.now ≡ None }
+    ensures { record_of B.form result ≡ bytes.now }
 {
     Letter::make(read_stamp(bytes), bytes[32], read_body(bytes))
 }
 
 // The first wrong byte of the record at the front; where the bytes are too few for one, how many there are.
 pub fn first_wrong<B: Body>(bytes: &[u8]) -> Option<u8>
-    ensures { result ≡ wrong_front form bytes.now }
+    ensures { result ≡ wrong_front B.form bytes.now }
 {
     if bytes.len() < RECORD_SIZE {
         return Some(bytes.len() as u8);
@@ -112,7 +112,7 @@ pub fn first_wrong<B: Body>(bytes: &[u8]) -> Option<u8>
 // The first wrong byte of 96.
 fn wrong_byte<B: Body>(bytes: &[u8]) -> Option<u8>
     requires { length bytes.now ≡ 96 }
-    ensures { result ≡ wrong_byte form bytes.now }
+    ensures { result ≡ wrong_byte B.form bytes.now }
 {
     if let Some(place) = wrong_header::<B>(bytes) {
         return Some(place);
@@ -127,7 +127,7 @@ fn wrong_byte<B: Body>(bytes: &[u8]) -> Option<u8>
 // The first wrong byte of the 36 before the body.
 fn wrong_header<B: Body>(bytes: &[u8]) -> Option<u8>
     requires { length bytes.now ≡ 96 }
-    ensures { result ≡ wrong_header form bytes.now }
+    ensures { result ≡ wrong_header B.form bytes.now }
 {
     let poster = bytes[32];
     if poster >= 16 {

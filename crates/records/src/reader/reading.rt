@@ -30,7 +30,7 @@ impl<'a, B: Body> Reader<'a, B> {
         poster: &mut u8,
         body: &mut B,
     ) -> Result<Option<usize>, Fault>
-        ensures { NextRead form self.old self.new (parts stamp.old poster.old body.old) (parts stamp.new poster.new body.new) result }
+        ensures { NextRead B.form self.old self.new (parts stamp.old poster.old body.old) (parts stamp.new poster.new body.new) result }
     {
         self.read_next(stamp, poster, body)
     }
@@ -41,7 +41,7 @@ impl<'a, B: Body> Reader<'a, B> {
         poster: &mut u8,
         body: &mut B,
     ) -> Result<Option<usize>, Fault>
-        ensures { NextRead form self.old self.new (parts stamp.old poster.old body.old) (parts stamp.new poster.new body.new) result }
+        ensures { NextRead B.form self.old self.new (parts stamp.old poster.old body.old) (parts stamp.new poster.new body.new) result }
     {
         let at = RECORD_SIZE * self.index;
         let index = self.index;
