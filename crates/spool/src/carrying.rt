@@ -36,7 +36,7 @@ impl<'a, B: Stored> Spool<'a, B> {
     pub fn new(buffer: &'a mut [u8], seats: u8) -> Spool<'a, B>
         requires { spool_answer seats (length buffer.old) ≡ Ok tt }
         ensures seats { result.seats ≡ seats }
-        ensures empty { Empty (spool_of B.Body.form blank result) }
+        ensures empty { Empty (spool_of B.form B.blank result) }
         ensures buffer { result.tape.bytes.now ≡ buffer.old }
     {
         Spool {
@@ -50,10 +50,10 @@ impl<'a, B: Stored> Spool<'a, B> {
     // The row at a place of a seat's list.
     fn find(&self, seat: u8, place: u32) -> usize
         requires seat { seat < self.now.seats }
-        requires place { place < length ((spool_of B.Body.form blank self.now).waiting seat) }
+        requires place { place < length ((spool_of B.form B.blank self.now).waiting seat) }
         ensures row { result < self.now.rows }
         ensures marked { marks_at self.now.tape.bytes.now seat result ≡ true }
-        ensures place { place_of B.Body.form blank self.now seat result ≡ place }
+        ensures place { place_of B.form B.blank self.now seat result ≡ place }
     {
         let mut seen = 0;
         for row in 0..self.rows {
@@ -72,7 +72,7 @@ impl<'a, B: Stored> Spool<'a, B> {
         requires seat { seat < self.old.seats }
         requires row { row < self.old.rows }
         requires marked { marks_at self.old.tape.bytes.now seat row ≡ true }
-        ensures { Drawn (spool_of B.Body.form blank self.old) seat (place_of B.Body.form blank self.old seat row) (spool_of B.Body.form blank self.new) }
+        ensures { Drawn (spool_of B.form B.blank self.old) seat (place_of B.form B.blank self.old seat row) (spool_of B.form B.blank self.new) }
     {
         let left = self.tape.mask(row) ^ (1 << seat);
         if is_done(left) {
@@ -87,9 +87,9 @@ impl<'a, B: Stored> Spool<'a, B> {
 impl<'a, B: Stored> Carrier for Spool<'a, B> {
     type Body = B;
 
-    ghost meaning = { λ s. spool_of B.Body.form B.Stored.blank s };
+    ghost meaning = { λ s. spool_of B.form B.blank s };
 
-    ghost lawful = { λ s. lawful_spool B.Body.form B.Stored.blank s };
+    ghost lawful = { λ s. lawful_spool B.form B.blank s };
 
     fn seats(&self) -> u8 {
         self.seats
@@ -113,9 +113,9 @@ impl<'a, B: Stored> Carrier for Spool<'a, B> {
     }
 
     fn put(&mut self, letter: &Letter<B>) -> Result<(), Refusal>
-        ensures answer { told (λ u. u) result ≡ put_answer (spool_of B.Body.form blank self.old) letter.now.poster }
-        ensures leaves { PutLeaves result (spool_of B.Body.form blank self.old) letter.now.poster letter.now (spool_of B.Body.form blank self.new) }
-        ensures exact { Appends result (spool_of B.Body.form blank self.old) letter.now.poster letter.now (spool_of B.Body.form blank self.new) }
+        ensures answer { told (λ u. u) result ≡ put_answer (spool_of B.form B.blank self.old) letter.now.poster }
+        ensures leaves { PutLeaves result (spool_of B.form B.blank self.old) letter.now.poster letter.now (spool_of B.form B.blank self.new) }
+        ensures exact { Appends result (spool_of B.form B.blank self.old) letter.now.poster letter.now (spool_of B.form B.blank self.new) }
         ensures row { AddsRow result self.old letter.now.poster self.new }
         ensures kept { Kept result self.old.tape.bytes.now self.new.tape.bytes.now }
     {
@@ -143,8 +143,8 @@ impl<'a, B: Stored> Carrier for Spool<'a, B> {
         poster: &mut u8,
         body: &mut B,
     ) -> Result<(), Refusal>
-        ensures answer { told (λ u. u) result ≡ draw_answer (spool_of B.Body.form blank self.old) seat place }
-        ensures leaves { DrawLeaves parts_of result (spool_of B.Body.form blank self.old) seat place (spool_of B.Body.form blank self.new) (parts stamp.old poster.old body.old) (parts stamp.new poster.new body.new) }
+        ensures answer { told (λ u. u) result ≡ draw_answer (spool_of B.form B.blank self.old) seat place }
+        ensures leaves { DrawLeaves parts_of result (spool_of B.form B.blank self.old) seat place (spool_of B.form B.blank self.new) (parts stamp.old poster.old body.old) (parts stamp.new poster.new body.new) }
         ensures kept { Kept result self.old.tape.bytes.now self.new.tape.bytes.now }
     {
         if seat >= self.seats {

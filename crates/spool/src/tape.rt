@@ -52,7 +52,7 @@ impl<'a> Tape<'a> {
         body: &mut B,
     )
         requires { row * row_size + row_size ≤ length self.now.bytes.now }
-        ensures { parts stamp.new poster.new body.new ≡ parts_of (letter_of B.Body.form blank (record_part (row_at self.now.bytes.now row))) }
+        ensures { parts stamp.new poster.new body.new ≡ parts_of (letter_of B.form B.blank (record_part (row_at self.now.bytes.now row))) }
     {
         let at = row * ROW_SIZE;
         read_letter(&self.bytes[at..at + RECORD_SIZE], stamp, poster, body);
@@ -63,7 +63,7 @@ impl<'a> Tape<'a> {
         requires { row * row_size + row_size ≤ length self.old.bytes.now }
         ensures long { length self.new.bytes.now ≡ length self.old.bytes.now }
         ensures only { OnlyAt (row * row_size) row_size self.old.bytes.now self.new.bytes.now }
-        ensures letter { record_part (row_at self.new.bytes.now row) ≡ record_of form letter.now }
+        ensures letter { record_part (row_at self.new.bytes.now row) ≡ record_of B.form letter.now }
     {
         let at = row * ROW_SIZE;
         write_letter(letter, &mut self.bytes[at..at + RECORD_SIZE]);
@@ -84,7 +84,7 @@ impl<'a> Tape<'a> {
 // Writes a letter's record over bytes of its size.
 fn write_letter<B: Body>(letter: &Letter<B>, into: &mut [u8])
     requires { length into.old ≡ 96 }
-    ensures { into.new ≡ record_of form letter.now }
+    ensures { into.new ≡ record_of B.form letter.now }
 {
     let record = to_record(letter);
     into.copy_from_slice(&record);
@@ -93,7 +93,7 @@ fn write_letter<B: Body>(letter: &Letter<B>, into: &mut [u8])
 // Fills the lent parts with those of the letter that the bytes of a record stand for.
 fn read_letter<B: Stored>(bytes: &[u8], stamp: &mut Stamp, poster: &mut u8, body: &mut B)
     requires { length bytes.now ≡ 96 }
-    ensures { parts stamp.new poster.new body.new ≡ parts_of (letter_of B.Body.form blank bytes.now) }
+    ensures { parts stamp.new poster.new body.new ≡ parts_of (letter_of B.form B.blank bytes.now) }
 {
     match read_record(bytes, stamp, poster, body) {
         Ok(()) => {}
@@ -102,7 +102,7 @@ fn read_letter<B: Stored>(bytes: &[u8], stamp: &mut Stamp, poster: &mut u8, body
 }
 
 fn fill_blank<B: Stored>(stamp: &mut Stamp, poster: &mut u8, body: &mut B)
-    ensures { parts stamp.new poster.new body.new ≡ parts_of (blank_letter blank) }
+    ensures { parts stamp.new poster.new body.new ≡ parts_of (blank_letter B.blank) }
 {
     *stamp = Stamp { entries: [1; 16] };
     *poster = 0;

@@ -14,9 +14,9 @@ loop-row-preserved g c =
     let test : c.marks.result ≡ marks_at b seat row = c.marks.ensures ∙ ap (λ m. marked m seat) c.mask.ensures in
     elim c.if-marks.branch [
       | then-marks+else-seen-place w ↦
-          let more = picks_yes (marks_at b seat) (letters_at (letter_of g.row.B-Body.form g.B.Stored.blank) b) row (sym test ∙ w.if-marks.true) in
+          let more = picks_yes (marks_at b seat) (letters_at (letter_of g.B.Body.form g.B.Stored.blank) b) row (sym test ∙ w.if-marks.true) in
           (w.seen-is ∙ omega (arith, more, c.loop-row.invariant.0), omega (arith, w.seen-is, w.if-seen-place.false, c.loop-row.invariant.1))
       | else-marks w ↦
-          let same = picks_not (marks_at b seat) (letters_at (letter_of g.row.B-Body.form g.B.Stored.blank) b) row (sym test ∙ w.if-marks.false) in
+          let same = picks_not (marks_at b seat) (letters_at (letter_of g.B.Body.form g.B.Stored.blank) b) row (sym test ∙ w.if-marks.false) in
           (w.seen-is ∙ c.loop-row.invariant.0 ∙ sym same, omega (arith, w.seen-is, c.loop-row.invariant.1))
     ]

@@ -5,5 +5,5 @@ use Rattle.spool.proofs.Spool.find.Given as goal
 
 abbrev pub invariant-loop-row : goal.invariant-loop-row
 invariant-loop-row g l =
-    (l.seen ≡ length (picks (marks_at l.self.tape.bytes.now l.seat) (letters_at (letter_of g.row.B-Body.form g.B.Stored.blank) l.self.tape.bytes.now) l.row))
+    (l.seen ≡ length (picks (marks_at l.self.tape.bytes.now l.seat) (letters_at (letter_of g.B.Body.form g.B.Stored.blank) l.self.tape.bytes.now) l.row))
     × (l.seen ≤ l.place)

@@ -15,22 +15,15 @@ invariant_of-self g c =
     let s = c.args.self.now in
     let b = s.tape.bytes.now in
     let a = c.close_up.new.self.bytes.now in
-    let e = c.close_up.ensures in (
-      s.some,
-      (
-        s.few,
-        (
-          subst (λ n. 98 ≤ n) (sym e.long) s.spacious,
-          (
-            omega (arith, e.long, s.whole, c.requires.row),
-            (
-              each_closed (λ m. 0 < m) s.rows b a s.wanted c.args.row e.before e.behind,
-              (each_closed (λ m. m < 2 ^ s.seats) s.rows b a s.seated c.args.row e.before e.behind, tt),
-            ),
-          ),
-        ),
-      ),
-    )
+    let e = c.close_up.ensures in
+    record {
+      some = s.some;
+      few = s.few;
+      spacious = subst (λ n. 98 ≤ n) (sym e.long) s.spacious;
+      whole = omega (arith, e.long, s.whole, c.requires.row);
+      wanted = each_closed (λ m. 0 < m) s.rows b a s.wanted c.args.row e.before e.behind;
+      seated = each_closed (λ m. m < 2 ^ s.seats) s.rows b a s.seated c.args.row e.before e.behind;
+    }
 
 pub invariant_of-self-else-is_done : goal.invariant_of-self-else-is_done
 invariant_of-self-else-is_done g c =
@@ -44,22 +37,15 @@ invariant_of-self-else-is_done g c =
     let turned : mask_of (row_at a i) ≡ bit_xor (mask_of (row_at b i)) (2 ^ seat) = e.mask ∙ ap (λ m. bit_xor m ((1 * 2 ^ seat) % 65536)) c.mask.ensures ∙ ap (bit_xor (mask_of (row_at b i))) shl in
     let some : 0 < mask_of (row_at a i) = subst (λ m. 0 < m) (sym e.mask) (ones_some _ (eqb-false _ _ (sym c.is_done.ensures ∙ c.if-is_done.false))) in
     let few : mask_of (row_at a i) < 2 ^ s.seats = subst (λ m. m < 2 ^ s.seats) (sym turned) (turned_below s.seats (mask_of (row_at b i)) seat (s.seated i c.requires.row) c.requires.seat) in
-    let same = kept_rows b a i e.only in (
-      s.some,
-      (
-        s.few,
-        (
-          subst (λ n. 98 ≤ n) (sym e.long) s.spacious,
-          (
-            omega (arith, e.long, s.whole),
-            (
-              each_written (λ m. 0 < m) s.rows b a s.wanted i s.rows same (omega arith) (λ l. absurd (omega arith)) some,
-              (each_written (λ m. m < 2 ^ s.seats) s.rows b a s.seated i s.rows same (omega arith) (λ l. absurd (omega arith)) few, tt),
-            ),
-          ),
-        ),
-      ),
-    )
+    let same = kept_rows b a i e.only in
+    record {
+      some = s.some;
+      few = s.few;
+      spacious = subst (λ n. 98 ≤ n) (sym e.long) s.spacious;
+      whole = omega (arith, e.long, s.whole);
+      wanted = each_written (λ m. 0 < m) s.rows b a s.wanted i s.rows same (omega arith) (λ l. absurd (omega arith)) some;
+      seated = each_written (λ m. m < 2 ^ s.seats) s.rows b a s.seated i s.rows same (omega arith) (λ l. absurd (omega arith)) few;
+    }
 
 pub returns-then-is_done : goal.returns-then-is_done
 returns-then-is_done g c =
@@ -68,7 +54,7 @@ returns-then-is_done g c =
     let a = c.close_up.new.self.bytes.now in
     let i = c.args.row in
     let seat = c.args.seat in
-    let read = letter_of g.row.B-Body.form g.B.Stored.blank in
+    let read = letter_of g.B.Body.form g.B.Stored.blank in
     let e = c.close_up.ensures in
     let shl : (1 * 2 ^ seat) % 65536 ≡ 2 ^ seat = one_shl seat 16 (omega (arith, s.few, c.requires.seat)) in
     let turned : bit_xor c.mask.result ((1 * 2 ^ seat) % 65536) ≡ bit_xor (mask_of (row_at b i)) (2 ^ seat) = ap (λ m. bit_xor m ((1 * 2 ^ seat) % 65536)) c.mask.ensures ∙ ap (bit_xor (mask_of (row_at b i))) shl in
@@ -83,7 +69,7 @@ returns-else-is_done g c =
     let a = c.set_mask.new.self.bytes.now in
     let i = c.args.row in
     let seat = c.args.seat in
-    let read = letter_of g.row.B-Body.form g.B.Stored.blank in
+    let read = letter_of g.B.Body.form g.B.Stored.blank in
     let e = c.set_mask.ensures in
     let shl : (1 * 2 ^ seat) % 65536 ≡ 2 ^ seat = one_shl seat 16 (omega (arith, s.few, c.requires.seat)) in
     let turned : mask_of (row_at a i) ≡ bit_xor (mask_of (row_at b i)) (2 ^ seat) = e.mask ∙ ap (λ m. bit_xor m ((1 * 2 ^ seat) % 65536)) c.mask.ensures ∙ ap (bit_xor (mask_of (row_at b i))) shl in

@@ -28,22 +28,15 @@ invariant_of-self g c =
     let is : mask_of (row_at a s.rows) ≡ mask = c.set_mask.ensures.mask in
     let some : 0 < mask = ones_some _ (eqb-false _ _ (sym c.is_done.ensures ∙ c.if-not-is_done.true)) in
     let few : mask < 2 ^ s.seats = subst (λ m. m < 2 ^ s.seats) (sym c.all_but-mask.ensures) (but_below s.seats poster c.if-poster-self.false) in
-    let same : (r : ℕ) → ¬ (r ≡ s.rows) → row_at a r ≡ row_at b r = λ r ne. kept_rows mid a s.rows c.set_mask.ensures.only r ne ∙ kept_rows b mid s.rows c.write.ensures.only r ne in (
-      s.some,
-      (
-        s.few,
-        (
-          subst (λ n. 98 ≤ n) (sym long) s.spacious,
-          (
-            omega (arith, long, room),
-            (
-              each_written (λ m. 0 < m) s.rows b a s.wanted s.rows (s.rows + 1) same (omega arith) (λ l. refl) (subst (λ m. 0 < m) (sym is) some),
-              (each_written (λ m. m < 2 ^ s.seats) s.rows b a s.seated s.rows (s.rows + 1) same (omega arith) (λ l. refl) (subst (λ m. m < 2 ^ s.seats) (sym is) few), tt),
-            ),
-          ),
-        ),
-      ),
-    )
+    let same : (r : ℕ) → ¬ (r ≡ s.rows) → row_at a r ≡ row_at b r = λ r ne. kept_rows mid a s.rows c.set_mask.ensures.only r ne ∙ kept_rows b mid s.rows c.write.ensures.only r ne in
+    record {
+      some = s.some;
+      few = s.few;
+      spacious = subst (λ n. 98 ≤ n) (sym long) s.spacious;
+      whole = omega (arith, long, room);
+      wanted = each_written (λ m. 0 < m) s.rows b a s.wanted s.rows (s.rows + 1) same (omega arith) (λ l. refl) (subst (λ m. 0 < m) (sym is) some);
+      seated = each_written (λ m. m < 2 ^ s.seats) s.rows b a s.seated s.rows (s.rows + 1) same (omega arith) (λ l. refl) (subst (λ m. m < 2 ^ s.seats) (sym is) few);
+    }
 
 pub returns-then-not-is_done : goal.returns-then-not-is_done
 returns-then-not-is_done g c =
@@ -52,7 +45,7 @@ returns-then-not-is_done g c =
     let mid = c.write.new.self.bytes.now in
     let a = c.set_mask.new.self.bytes.now in
     let x = c.args.letter.now in
-    let form = g.row.B-Body.form in
+    let form = g.B.Body.form in
     let blank = g.B.Stored.blank in
     let read = letter_of form blank in
     let is = c.poster-poster.ensures in
@@ -78,7 +71,7 @@ returns-else-not-is_done g c =
     let s = c.args.self.now in
     let b = s.tape.bytes.now in
     let x = c.args.letter.now in
-    let form = g.row.B-Body.form in
+    let form = g.B.Body.form in
     let blank = g.B.Stored.blank in
     let is = c.poster-poster.ensures in
     let m = spool_of form blank s in

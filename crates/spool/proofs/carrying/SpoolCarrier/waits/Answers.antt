@@ -11,7 +11,7 @@ pub returns-then-seat-self : goal.returns-then-seat-self
 returns-then-seat-self g c =
     let s = c.args.self.now in
     let b = s.tape.bytes.now in
-    let none = picks_none (marks_at b c.args.seat) (letters_at (letter_of g.row.B-Body.form g.B.Stored.blank) b) s.rows (λ r l. no_bit s.seats _ c.args.seat (s.seated r l) c.if-seat-self.true) in
+    let none = picks_none (marks_at b c.args.seat) (letters_at (letter_of g.B.Body.form g.B.Stored.blank) b) s.rows (λ r l. no_bit s.seats _ c.args.seat (s.seated r l) c.if-seat-self.true) in
     sym (ap (λ l. min (length l) (2 ^ 32 - 1)) none)
 
 pub loop-row-preserved : goal.loop-row-preserved
@@ -23,9 +23,9 @@ loop-row-preserved g c =
     let inv = c.loop-row.invariant in
     elim c.if-marks.branch [
       | then-marks w ↦
-          let more = picks_yes (marks_at b seat) (letters_at (letter_of g.row.B-Body.form g.B.Stored.blank) b) row (sym test ∙ w.if-marks.true) in
+          let more = picks_yes (marks_at b seat) (letters_at (letter_of g.B.Body.form g.B.Stored.blank) b) row (sym test ∙ w.if-marks.true) in
           w.count-is ∙ w.saturating_add-count.ensures ∙ omega (arith, more, inv)
       | else-marks w ↦
-          let same = picks_not (marks_at b seat) (letters_at (letter_of g.row.B-Body.form g.B.Stored.blank) b) row (sym test ∙ w.if-marks.false) in
+          let same = picks_not (marks_at b seat) (letters_at (letter_of g.B.Body.form g.B.Stored.blank) b) row (sym test ∙ w.if-marks.false) in
           w.count-is ∙ inv ∙ ap (λ n. min n (2 ^ 32 - 1)) (sym same)
     ]

@@ -9,4 +9,4 @@ returns g c =
     let b = c.args.self.now.bytes.now in
     let at = c.args.row * 98 in
     let n : at + 96 - at ≡ 96 = omega arith in
-    c.read_letter.ensures ∙ ap (λ l. parts_of (letter_of g.row.B-Body.form g.B.Stored.blank l)) (ap (λ k. take k (drop at b)) n ∙ sym (record_at b c.args.row))
+    c.read_letter.ensures ∙ ap (λ l. parts_of (letter_of g.B.Body.form g.B.Stored.blank l)) (ap (λ k. take k (drop at b)) n ∙ sym (record_at b c.args.row))

@@ -11,7 +11,7 @@ returns g c =
     let at = c.args.row * 98 in
     let part = c.write_letter.new.into in
     let fits : at + 96 ≤ length b = omega (arith, c.requires) in
-    let size : length part ≡ 96 = ap length c.write_letter.ensures ∙ record_long g.row.B-Body.form g.met.B.Body.lawful c.args.letter.now in
+    let size : length part ≡ 96 = ap length c.write_letter.ensures ∙ record_long g.B.Body.form g.met.B.Body.lawful c.args.letter.now in
     let long : length part ≡ cut at 96 b fits = omega arith in
     record {
       long = search rules;
