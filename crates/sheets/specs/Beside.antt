@@ -1,6 +1,6 @@
 -- What letters that are side by side have different.
 use Rattle.std.proofs.Common.{inl, inr, ap, arith}
-use Rattle.std.specs.Prelude.{◌≡◌, ◌≢◌}
+use Rattle.std.specs.Prelude.{◌≢◌}
 use Rattle.std.proofs.lemmas.Bool.{cases_lt}
 use Rattle.letters.specs.declared.letter.Letter.{Letter}
 use Rattle.letters.specs.Letters.{entry_at, number_of}

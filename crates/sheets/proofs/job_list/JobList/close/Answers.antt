@@ -6,7 +6,7 @@ pub invariant_of-self : goal.invariant_of-self
 invariant_of-self c =
     let s = c.args.self.now in
     let after = closing s c.args.poster c.args.number c.place-at.result (cc) (omega arith) _ c.remove.ensures in
-    (search rules, (omega (arith, s.few), (s.fit, (after.1, tt))))
+    record { sized = search rules; few = omega (arith, s.few); fit = s.fit; ordered = after.1 }
 
 pub returns-then-at-self : goal.returns-then-at-self
 returns-then-at-self c =

@@ -6,7 +6,7 @@ pub invariant_of-self : goal.invariant_of-self
 invariant_of-self c =
     let s = c.args.self.now in
     let after = opening c.args.job (take s.len s.rows) _ _ s.ordered c.close.ensures.jobs c.insert.ensures in
-    (search rules, (omega arith, (search rules, (after.1, tt))))
+    record { sized = search rules; few = omega arith; fit = search rules; ordered = after.1 }
 
 pub returns : goal.returns
 returns c =
