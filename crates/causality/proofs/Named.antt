@@ -1,5 +1,5 @@
 -- What led to what, told by the names of the letters, is what led to what.
-use Rattle.std.proofs.Common.{◌≡◌, ℕ, List, [], ◌∷◌, sym, refl, ap, ◌∙◌, subst, inl, inr}
+use Rattle.std.proofs.Common.{◌≡◌, ℕ, [], ◌∷◌, sym, refl, ap, ◌∙◌, subst, inl, inr}
 use Rattle.letters.specs.Lists.{◌∈◌, here, there}
 use Rattle.causality.specs.History.{History, posted, shown, posted_letters, Seen, Before, LedTo, direct, through, told}
 

@@ -1,5 +1,5 @@
 -- What is kept of a room that was worked.
-use Rattle.std.proofs.Common.{◌≡◌, ℕ, ◌+◌, ◌*◌, ◌<◌, ◌≤◌, List, [], ◌∷◌, ◌++◌, map, length, take, drop, sym, refl, ap, ◌∙◌, subst, inl, inr, append-nil, arith, take-append-drop}
+use Rattle.std.proofs.Common.{◌≡◌, ℕ, ◌*◌, ◌<◌, ◌≤◌, List, [], ◌∷◌, ◌++◌, map, length, take, drop, sym, refl, ap, ◌∙◌, subst, inl, inr, append-nil, arith, take-append-drop}
 use Rattle.letters.specs.declared.letter.Letter.{Letter}
 use Rattle.letters.specs.Letters.{letter_name}
 use Rattle.letters.specs.Names.{Name}
@@ -15,7 +15,7 @@ use Rattle.causality.proofs.Theorems.{causal_order, complete_delivery, order_for
 use Rattle.sheets.specs.Sheets.{Kind, Lawful}
 use Rattle.seats.specs.Rooms.{RoomState, seat_at, start}
 use Rattle.seats.specs.Seats.{log_length}
-use Rattle.lives.specs.Traces.{Posting, Trace, events, posting, postings}
+use Rattle.lives.specs.Traces.{Posting, Trace, posting, postings}
 use Rattle.lives.specs.Worked.{Moment}
 use Rattle.lives.specs.Keeps.{Agree, AlwaysKeeps, Complete, Genuine, InOrder, Keeps, Settled, hold_at, log_at}
 use Rattle.lives.proofs.Agreeing.{agree}

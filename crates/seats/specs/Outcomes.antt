@@ -1,14 +1,14 @@
 -- What each call on a room answers, and what it leaves: the checks in their order, by their numbers.
-use Rattle.std.specs.Prelude.{◌≡◌, ℕ, ◌+◌, ◌-◌, ◌*◌, Bool, true, false, cond, not, ◌&&◌, ◌||◌, List, [], ◌∷◌, length, set, Some, None, Ok, Err, Option, Result, ◌==◌, nat_le, nat_lt, slice_index_or, slice_set}
+use Rattle.std.specs.Prelude.{◌≡◌, ℕ, ◌+◌, ◌-◌, ◌*◌, Bool, true, false, cond, ◌&&◌, ◌||◌, List, [], ◌∷◌, length, set, Some, None, Ok, Err, Option, Result, ◌==◌, nat_le, nat_lt, slice_index_or, slice_set}
 use Rattle.letters.specs.declared.letter.Letter.{Letter}
-use Rattle.letters.specs.Letters.{Parts, letter_name, number_of, parts, parts_of}
-use Rattle.letters.specs.Names.{Name, name, name_of}
+use Rattle.letters.specs.Letters.{letter_name, number_of, parts, parts_of}
+use Rattle.letters.specs.Names.{Name, name_of}
 use Rattle.letters.specs.Order.{ready}
 use Rattle.letters.specs.Refusals.{Reason, plain, unless}
 use Rattle.carriers.specs.Meaning.{Drawn, Meaning, PutOn, draw_answer, put_answer}
 use Rattle.seats.specs.declared.seat.Seat.{Seat}
 use Rattle.seats.specs.declared.seat.DocketEvent.{DocketEvent}
-use Rattle.seats.specs.declared.seat.DocketEvent.TheVariants.{Post, Send, Park, Collect}
+use Rattle.seats.specs.declared.seat.DocketEvent.TheVariants.{Post, Send, Collect}
 use Rattle.seats.specs.declared.taken.Taken.{Taken}
 use Rattle.seats.specs.declared.taken.Taken.TheVariants as taken
 use Rattle.seats.specs.Rooms.{RoomState, closed, foot, hold_of, log_of, seat_at, start, suffice, with_seat}

@@ -1,5 +1,5 @@
 -- What a room holds, and where each seat's letters lie in the two letter tables.
-use Rattle.std.specs.Prelude.{ℕ, ◌+◌, ◌*◌, Bool, ◌&&◌, List, length, take, drop, nat_le, slice_index_or, slice_set}
+use Rattle.std.specs.Prelude.{ℕ, ◌+◌, ◌*◌, Bool, ◌&&◌, List, take, drop, nat_le, slice_index_or, slice_set}
 use Rattle.std.proofs.Math.Seq.{paste}
 use Rattle.letters.specs.declared.letter.Letter.{Letter}
 use Rattle.seats.specs.declared.seat.Seat.{Seat}

@@ -1,5 +1,5 @@
 -- What a seat is told.
-use Rattle.std.specs.Prelude.{ℕ, ◌+◌, ◌-◌, Bool, true, false, List, [], set, replicate, sum, slice_set}
+use Rattle.std.specs.Prelude.{ℕ, ◌+◌, ◌-◌, Bool, true, false, [], replicate, sum, slice_set}
 use Rattle.causality.specs.declared.docket.DocketState.{DocketState}
 use Rattle.causality.specs.declared.docket.DocketState.TheVariants.{Clear, Out, Parked}
 use Rattle.letters.specs.Letters.{entry_at}
