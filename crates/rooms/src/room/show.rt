@@ -46,8 +46,8 @@ impl Room {
         at: usize,
         letter: &Letter<B>,
     )
-        requires tt_value { Ok tt ≡ seat_check (state self.old) (length logs.old) (length holds.old) seat }
-        requires letter_value { Some (at, letter.now) ≡ first_ready (state self.old) holds.old seat }
+        requires passes { Ok tt ≡ seat_check (state self.old) (length logs.old) (length holds.old) seat }
+        requires found { Some (at, letter.now) ≡ first_ready (state self.old) holds.old seat }
         ensures room { state self.new ≡ with_seat (state self.old) seat (shown_seat (seat_at (state self.old) seat) letter.now) }
         ensures logs { logs.new ≡ slice_set logs.old (foot (state self.old) seat) letter.now }
         ensures holds { holds.new ≡ closed holds.old (start (state self.old) seat + at) ((seat_at (state self.old) seat).held - at - 1) }

@@ -19,8 +19,8 @@ use seats::seat::Seat;
 impl Room {
     // A room in which nothing has happened.
     pub(crate) fn fresh(number: u32, quota: u16, names: [u32; 16], count: u8) -> Room
-        requires le_count { (1 ≤ count) × (count ≤ 16) }
-        requires le_quota { (1 ≤ quota) × (count * quota ≤ 256) }
+        requires few { (1 ≤ count) × (count ≤ 16) }
+        requires small { (1 ≤ quota) × (count * quota ≤ 256) }
         ensures { state result ≡ record { number = number; names = names; count = count; quota = quota; seats = replicate 16 fresh } }
     {
         let nothing = Seat {

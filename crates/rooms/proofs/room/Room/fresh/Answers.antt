@@ -4,4 +4,14 @@ use Rattle.rooms.proofs.room.Room.fresh.Goals as goal
 
 pub invariant_of-result : goal.invariant_of-result
 invariant_of-result c =
-    (c.requires.0.0, (c.requires.0.1, (c.requires.1.0, (c.requires.1.1, (refl, (fresh_whole, (fresh_within _, (fresh_nobody _, (fresh-placed _, tt)))))))))
+    record {
+      some = c.requires.few.0;
+      few = c.requires.few.1;
+      quotaed = c.requires.small.0;
+      small = c.requires.small.1;
+      table = refl;
+      whole = fresh_whole;
+      within = fresh_within _;
+      nobody = fresh_nobody _;
+      placed = fresh-placed _;
+    }

@@ -13,4 +13,14 @@ invariant_of-self c =
     let within = set_each (Within r.quota) blank r.seats c.args.s c.args.seat told.within r.within in
     let nobody = set_each (Nobody r.count) blank r.seats c.args.s c.args.seat told.nobody r.nobody in
     let placed = set_each (λ x. x.held ≤ r.count * r.quota) blank r.seats c.args.s c.args.seat told.placed r.placed in
-    (r.some, (r.few, (r.quotaed, (r.small, (length-set r.seats c.args.s c.args.seat ∙ r.table, (whole, (within, (nobody, (placed, tt)))))))))
+    record {
+      some = r.some;
+      few = r.few;
+      quotaed = r.quotaed;
+      small = r.small;
+      table = length-set r.seats c.args.s c.args.seat ∙ r.table;
+      whole = whole;
+      within = within;
+      nobody = nobody;
+      placed = placed;
+    }
