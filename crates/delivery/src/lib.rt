@@ -86,7 +86,7 @@ mod tests {
             .is_ok()
         );
         assert_eq!(rt; poster, 0);
-        assert!(rt; body.as_bytes() == b"hello");
+        assert!(rt; body.as_bytes() == b"hello".as_slice());
         Ok(())
     }
 
