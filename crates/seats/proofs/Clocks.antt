@@ -47,7 +47,7 @@ module _ (n q : ℕ) (few : n ≤ 16) (x : Seat) (kept : Kept n q x) (p : ℕ) (
       let more = sum_by-set (λ e. e) xs p (get_or xs p 0 + 1) 0 (omega (arith, kept.whole)) in
       omega arith
 
--- a seat with an clock-at below the quota has a place at the foot of its log
+-- where an entry of its clock is below the quota, a seat's log has a place at its foot
 pub foot_below : (st : RoomState) (ok : Sound st) (s p : ℕ) → s < st.count → p < st.count → clock_at (seat_at st s) p < st.quota → foot st s < start st st.count
 foot_below st ok s p inside poster left =
     let short = log_short st.count st.quota ok.few (seat_at st s) (seat_kept st ok s (omega arith)) p poster left in
