@@ -4,11 +4,11 @@
 usage: check_misuse.py
 
 Posting to a draft does not compile; one opens it first. Letting a docket fall does not compile; one sends or parks it. The
-crates below are checked one by one in a temporary folder, over copies of the crates that they stand on, with what is proved
-of these taken over from target/. Each misuse must be refused with the very line that it names, and each twin must pass.
+crates below are made in a temporary folder, over copies of the crates that they stand on. Each twin must pass there, by
+`rt ci`, which knows what it has proved of the crates below on this machine; and `rt check` must refuse each misuse with the
+very line that it names.
 """
 
-import os
 import shutil
 import subprocess
 import sys
@@ -18,6 +18,8 @@ from pathlib import Path
 HOME = Path(__file__).resolve().parent.parent
 
 POST = """// Posts the first letter of a room.
+#![tactic(auto)]
+
 use carriers::carrier::Carrier;
 use letters::body::Body;
 use letters::letter::Letter;
@@ -39,6 +41,8 @@ pub fn post_first<B: Body, C: Carrier<Body = B>>(
 """
 
 SPEND = """// Spends a docket.
+#![tactic(auto)]
+
 use carriers::carrier::Carrier;
 use letters::body::Body;
 use letters::letter::Letter;
@@ -82,36 +86,55 @@ def crates_below(name):
     return below
 
 
-def prepare(folder):
+def write(folder, crates):
+    """Writes these crates, and the list of all that stand in the folder."""
     below = crates_below("rooms")
-    for name in below:
-        shutil.copytree(HOME / "crates" / name, folder / "crates" / name)
-    for part in ["rlib", "stamp", "inc"]:
-        (folder / "target" / part).mkdir(parents=True)
-        for found in (HOME / "target" / part).glob("*"):
-            if found.name.split(".")[0] in below:
-                copy = shutil.copytree if found.is_dir() else shutil.copy2
-                copy(found, folder / "target" / part / found.name)
-    for name, source, _ in CRATES:
+    for name, source, _ in crates:
         (folder / "crates" / name / "src").mkdir(parents=True)
         (folder / "crates" / name / "src" / "lib.rt").write_text(source)
-    listed = [f"{name}: {' '.join(below)}" for name, _, _ in CRATES]
+    listed = [f"{name}: {' '.join(below)}" for name, _, _ in CRATES if (folder / "crates" / name).is_dir()]
     (folder / "crates.txt").write_text("\n".join([*below.values(), *listed]) + "\n")
 
 
-def check(folder, name, words):
-    """Whether the crate passes, or is refused with a line that has the words."""
-    done = subprocess.run(["rt", "check", name], cwd=folder, stdout=subprocess.PIPE, stderr=subprocess.STDOUT, text=True)
-    errors = [line for line in done.stdout.splitlines() if "error" in line]
-    if words is None:
-        good = done.returncode == 0 and not errors
-    else:
-        good = done.returncode == 1 and bool(errors) and all(word in errors[0] for word in words)
-    first = errors[0].replace(str(folder) + os.sep, "") if errors else "proved" if done.returncode == 0 else "no error line"
-    print(f"{'ok' if good else 'FAILED'}: {name}: {first}")
+def prepare(folder):
+    """Copies the crates below. Their edits are tried elsewhere."""
+    for name in crates_below("rooms"):
+        shutil.copytree(HOME / "crates" / name, folder / "crates" / name, ignore=shutil.ignore_patterns("out", "must-fail"))
+    (folder / ".git").mkdir()
+
+
+def said_by(words, place):
+    done = subprocess.run(["rt", *words], cwd=place, stdout=subprocess.PIPE, stderr=subprocess.STDOUT, text=True)
+    return done.returncode, done.stdout
+
+
+def report(name, good, line, said):
+    print(f"{'ok' if good else 'FAILED'}: {name}: {line}", flush=True)
     if not good:
-        print(done.stdout)
+        print(said)
     return good
+
+
+def check_twins(folder, twins):
+    """Whether each twin is proved."""
+    write(folder, twins)
+    status, said = said_by(["ci"], folder)
+    return [
+        report(name, status == 0 and f"rt: {name} proved" in said.splitlines(), "proved" if status == 0 else "not proved", said)
+        for name, _, _ in twins
+    ]
+
+
+def check_misuses(folder, misuses):
+    """Whether each misuse is refused with a line that has its words."""
+    write(folder, misuses)
+    results = []
+    for name, _, words in misuses:
+        status, said = said_by(["check"], folder / "crates" / name)
+        errors = [line for line in said.splitlines() if "error" in line]
+        good = status == 1 and bool(errors) and all(word in errors[0] for word in words)
+        results.append(report(name, good, errors[0] if errors else "no error line", said))
+    return results
 
 
 def main():
@@ -121,7 +144,8 @@ def main():
     with tempfile.TemporaryDirectory() as place:
         folder = Path(place).resolve()
         prepare(folder)
-        results = [check(folder, name, words) for name, _, words in CRATES]
+        results = check_twins(folder, [it for it in CRATES if it[2] is None])
+        results += check_misuses(folder, [it for it in CRATES if it[2] is not None])
     failed = results.count(False)
     print(f"{len(results) - failed} passed, {failed} failed")
     return 1 if failed else 0

@@ -1,6 +1,6 @@
 """Makes steps for the program `branch` from readable lines, one step each:
 
-    python3 tools/steps.py < tests/samples/branch.txt | target/bin/branch
+    python3 tools/steps.py < tests/samples/branch.txt | crates/branch/out/branch
 
     post 0 add 7         seat 0 posts a job with its code
     post 1 strike 0.1    seat 1 posts a strike of the letter named

@@ -1,16 +1,13 @@
 -- What an accepted take draws, and what it leaves.
-use Rattle.std.proofs.Common.{◌≡◌, ℕ, ◌<◌, List, map, length, get_or, Ok, Result, sym, ap, ◌∙◌, subst, arith}
+use Rattle.std.proofs.Common.{◌≡◌, ℕ, ◌<◌, map, length, get_or, Ok, ap, ◌∙◌, arith}
 use Rattle.std.proofs.lemmas.List.{get_or_default, get_or-map}
 use Rattle.std.proofs.lemmas.Bool.{and_from, lt-ltb}
 use Rattle.std.proofs.lemmas.Bool.Decides.{nat_tests}
 use Rattle.letters.specs.declared.letter.Letter.{Letter}
 use Rattle.letters.specs.Letters.{Parts, letter_check, parts_of}
-use Rattle.letters.specs.Names.{Name}
-use Rattle.letters.specs.Refusals.{Reason, unless}
+use Rattle.letters.specs.Refusals.{unless}
 use Rattle.letters.specs.Same.{same_letter}
 use Rattle.carriers.specs.Meaning.{Meaning, draw_answer}
-use Rattle.seats.specs.Outcomes.{Take, Takes, Taking, carrier_check, follows, take_check}
-use Rattle.seats.specs.Rooms.{RoomState}
 
 -- the parts of a letter can be a letter's
 can_be : {B : Type 0} (m : Letter B) → letter_check m.stamp m.poster ≡ Ok tt

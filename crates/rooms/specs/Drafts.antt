@@ -1,5 +1,5 @@
 -- A room before it opens, and its opening.
-use Rattle.std.specs.Prelude.{ℕ, ◌+◌, ◌*◌, Bool, false, not, ◌&&◌, ◌||◌, List, [], ◌∷◌, take, replicate, Ok, Err, Result, ◌==◌, nat_eq, nat_le, nat_lt, slice_set}
+use Rattle.std.specs.Prelude.{ℕ, ◌+◌, ◌*◌, Bool, false, not, ◌&&◌, ◌||◌, List, [], ◌∷◌, take, replicate, Ok, Result, ◌==◌, nat_eq, nat_le, nat_lt, slice_set}
 use Rattle.letters.specs.Order.{each_below}
 use Rattle.letters.specs.Refusals.{Reason, unless}
 use Rattle.carriers.specs.Meaning.{Meaning, waits_at}

@@ -1,5 +1,5 @@
 -- A room and a docket by what they hold.
-use Rattle.std.specs.Prelude.{◌≡◌, ℕ, Ok, Err, Result}
+use Rattle.std.specs.Prelude.{◌≡◌, Ok, Err, Result}
 use Rattle.letters.specs.Refusals.{Reason, reason}
 use Rattle.seats.specs.Outcomes.{Slip}
 use Rattle.seats.specs.Rooms.{RoomState}

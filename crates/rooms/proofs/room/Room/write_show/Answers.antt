@@ -1,5 +1,5 @@
 use Rattle.std.proofs.Common.{set, ap, ◌∙◌, arith}
-use Rattle.seats.specs.Rooms.{seat_at, start}
+use Rattle.seats.specs.Rooms.{start}
 use Rattle.seats.proofs.Accepted.{visited, showable}
 use Rattle.rooms.specs.States.{state}
 use Rattle.rooms.proofs.Rooms.{sound}
