@@ -1,5 +1,5 @@
 -- A docket that a post or a collect answers is out at the room: it is sent, and can be parked where that is refused.
-use Rattle.std.proofs.Common.{◌≡◌, ℕ, ◌<◌, ◌≤◌, Bool, true, false, eqb, ltb, length, get_or, set, Ok, Err, Result, sym, refl, ap, ◌∙◌, subst, arith}
+use Rattle.std.proofs.Common.{◌≡◌, ℕ, ◌<◌, ◌≤◌, Bool, true, false, ltb, length, Ok, Err, Result, sym, refl, ap, ◌∙◌, subst, arith}
 use Rattle.std.proofs.lemmas.List.{get_or-set_same}
 use Rattle.std.proofs.lemmas.Bool.{eq-eqb, lt-ltb}
 use Rattle.std.proofs.lemmas.Bool.Decides.{nat_tests}
@@ -12,7 +12,7 @@ use Rattle.seats.specs.declared.seat.Seat.{Seat}
 use Rattle.seats.specs.Outcomes.{Slip, answered, collect_answer, docket_room, good_slip, park_answer, post_answer, post_check, posted_room, posted_seat, slip_of}
 use Rattle.seats.specs.Rooms.{RoomState, seat_at, with_seat}
 use Rattle.seats.specs.Seats.{allows, blank, clock_at, docketed, moved}
-use Rattle.seats.proofs.Accepted.{Postable, postable}
+use Rattle.seats.proofs.Accepted.{postable}
 use Rattle.rooms.specs.Calls.{post_room}
 use Rattle.lives.specs.declared.moves.Move.{Move}
 use Rattle.lives.specs.Traces.{docket, done, refused, slip}

@@ -1,5 +1,5 @@
 -- What a step of the program is, by its bytes.
-use Rattle.std.specs.Prelude.{ℕ, cond, List, [], length, drop, Some, None, Ok, Err, Option, Result, ◌==◌, slice_index}
+use Rattle.std.specs.Prelude.{ℕ, cond, List, length, drop, Some, None, Ok, Err, Option, Result, ◌==◌, slice_index}
 use Rattle.letters.specs.Jobs.{Said, adds, said, strike_answer}
 use Rattle.letters.specs.Numbers.{number_16, number_32}
 use Rattle.letters.specs.Refusals.{Reason, plain, reason}

@@ -1,4 +1,5 @@
 pub mod Rooms
+pub mod Posting
 pub mod Showing
 pub mod Taking
 pub mod Closing

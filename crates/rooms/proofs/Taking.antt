@@ -1,13 +1,16 @@
 -- What an accepted take draws, and what it leaves.
-use Rattle.std.proofs.Common.{◌≡◌, ℕ, ◌<◌, map, length, get_or, Ok, ap, ◌∙◌, arith}
+use Rattle.std.proofs.Common.{◌≡◌, ℕ, ◌<◌, List, map, length, get_or, Ok, Result, ap, ◌∙◌, subst, arith}
 use Rattle.std.proofs.lemmas.List.{get_or_default, get_or-map}
 use Rattle.std.proofs.lemmas.Bool.{and_from, lt-ltb}
 use Rattle.std.proofs.lemmas.Bool.Decides.{nat_tests}
 use Rattle.letters.specs.declared.letter.Letter.{Letter}
 use Rattle.letters.specs.Letters.{Parts, letter_check, parts_of}
-use Rattle.letters.specs.Refusals.{unless}
+use Rattle.letters.specs.Names.{Name}
+use Rattle.letters.specs.Refusals.{Reason, unless}
 use Rattle.letters.specs.Same.{same_letter}
 use Rattle.carriers.specs.Meaning.{Meaning, draw_answer}
+use Rattle.seats.specs.Outcomes.{Take, Takes, Taking, carrier_check, follows, take_check}
+use Rattle.seats.specs.Rooms.{RoomState}
 
 -- the parts of a letter can be a letter's
 can_be : {B : Type 0} (m : Letter B) → letter_check m.stamp m.poster ≡ Ok tt
@@ -30,3 +33,10 @@ module _ {B : Type 0} (c : Meaning (Letter B)) (s place : ℕ) (spare : Letter B
       let e = made ∙ drawn_parts in
       same_letter m (get_or (c.waiting s) place spare) (ap (λ q. q.stamp) e) (ap (λ q. q.poster) e) (ap (λ q. q.body) e)
       ∙ get_or_default (c.waiting s) place spare m there
+
+-- an accepted take, put together
+pub took : {B : Type 0} (st : RoomState) (logs : ℕ) (holds : List (Letter B)) (c : Meaning (Letter B)) (s place : ℕ) (r : Result (Taking × Name) Reason) (st' : RoomState) (holds' : List (Letter B)) (c' : Meaning (Letter B))
+    → Ok tt ≡ carrier_check st logs (length holds) c.seats → Ok tt ≡ draw_answer c s place → Takes st holds c s place r st' holds' c'
+    → Take (take_check st logs (length holds) c s place) st holds c s place r st' holds' c'
+took st logs holds c s place r st' holds' c' can drawn t =
+    subst (λ k. Take k st holds c s place r st' holds' c') (drawn ∙ ap (λ k. follows k (draw_answer c s place)) can) t

@@ -1,6 +1,4 @@
 use Rattle.std.proofs.Common.{refl, rules}
-use Rattle.lives.specs.Worked.{moment}
-use Rattle.rooms.specs.States.{state}
 use Rattle.branch.proofs.Leading.{led_nowhere, led_on, ran_led}
 use Rattle.branch.proofs.drive.Goals as goal
 

@@ -1,6 +1,6 @@
-use Rattle.std.proofs.Common.{◌≡◌, sym, refl, ap, ◌∙◌, rules}
+use Rattle.std.proofs.Common.{◌≡◌, refl, ap, ◌∙◌, rules}
 use Rattle.seats.specs.declared.seat.DocketEvent.TheVariants.{Park}
-use Rattle.seats.specs.Outcomes.{docket_room, good_slip, park_answer, send_answer}
+use Rattle.seats.specs.Outcomes.{docket_room, good_slip, park_answer}
 use Rattle.letters.specs.Refusals.{reason}
 use Rattle.lives.specs.Traces.{does}
 use Rattle.lives.specs.Worked.{moment}

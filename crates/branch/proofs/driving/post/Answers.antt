@@ -1,5 +1,4 @@
-use Rattle.std.proofs.Common.{◌≡◌, ◌≤◌, length, Ok, Err, refl, ap, rules}
-use Rattle.letters.specs.Refusals.{reason}
+use Rattle.std.proofs.Common.{◌≡◌, ◌≤◌, length, refl, ap, rules}
 use Rattle.lives.specs.declared.moves.Move.TheVariants.{Post}
 use Rattle.lives.specs.Traces.{dockets}
 use Rattle.lives.specs.Worked.{further, moment, nowhere}

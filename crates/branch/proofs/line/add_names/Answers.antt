@@ -1,4 +1,4 @@
-use Rattle.std.proofs.Common.{vec_items, sym, arith, rules}
+use Rattle.std.proofs.Common.{vec_items, sym, arith}
 use Rattle.branch.specs.Lines.{after_space}
 use Rattle.branch.proofs.Written.{items_all, items_more}
 use Rattle.branch.proofs.line.add_names.Goals as goal
