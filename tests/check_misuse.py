@@ -9,6 +9,7 @@ crates below are made in a temporary folder, over copies of the crates that they
 very line that it names.
 """
 
+import re
 import shutil
 import subprocess
 import sys
@@ -109,6 +110,7 @@ def said_by(words, place):
 
 
 def report(name, good, line, said):
+    good = bool(good)
     print(f"{'ok' if good else 'FAILED'}: {name}: {line}", flush=True)
     if not good:
         print(said)
@@ -119,10 +121,12 @@ def check_twins(folder, twins):
     """Whether each twin is proved."""
     write(folder, twins)
     status, said = said_by(["ci"], folder)
-    return [
-        report(name, status == 0 and f"rt: {name} proved" in said.splitlines(), "proved" if status == 0 else "not proved", said)
-        for name, _, _ in twins
-    ]
+    results = []
+    for name, _, _ in twins:
+        # in this run, or in an earlier one of the same files
+        proved = re.search(rf"^rt: {name} (?:proved$|is kept:)", said, re.M)
+        results.append(report(name, status == 0 and proved, "proved" if proved else "not proved", said))
+    return results
 
 
 def check_misuses(folder, misuses):
