@@ -12,6 +12,7 @@ use letters::stamp::Stamp;
 use letters::text::Text;
 use records::reader::Reader;
 use std::io::Read;
+use std::process::ExitCode;
 use std::{env, io};
 
 mod line;
@@ -111,15 +112,24 @@ fn kind_asked(rt: &HostRuntime) -> Option<Kind> {
     kind_named(word.as_str())
 }
 
-fn main(rt: HostRuntime) -> io::Result<()> {
-    match (kind_asked(&rt), Text::new(b"")) {
-        (Some(Kind::Job), _) => list(&rt, Job::Add(0)),
-        (Some(Kind::Text), Ok(blank)) => list(&rt, blank),
+// Lists what the arguments ask for, or says how the program is used.
+fn list_asked(rt: &HostRuntime) -> io::Result<()> {
+    match (kind_asked(rt), Text::new(b"")) {
+        (Some(Kind::Job), _) => list(rt, Job::Add(0)),
+        (Some(Kind::Text), Ok(blank)) => list(rt, blank),
         _ => {
             eprintln!(rt;
                 "usage: listing text|job < FILE (the kind of body that the letters have)"
             )?;
             Err(io::Error::from(io::ErrorKind::InvalidInput))
         }
+    }
+}
+
+// An error ends the program with status 1, and nothing more is printed.
+fn main(rt: HostRuntime) -> ExitCode {
+    match list_asked(&rt) {
+        Ok(()) => ExitCode::SUCCESS,
+        Err(_) => ExitCode::FAILURE,
     }
 }
