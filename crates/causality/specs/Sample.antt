@@ -8,10 +8,11 @@ use Rattle.causality.specs.Worlds.{World}
 use Rattle.causality.specs.Runs.{Run, Deed, deeds, a_refusal, a_post, a_send, a_park, a_collect, a_repeat, a_hold, a_show}
 use Rattle.causality.specs.Theorems.{Settled, Complete}
 
--- what the first letter that seat 0 posts is made of, where it has shown nothing
+-- the stamp of the first letter that seat 0 posts, where it has shown nothing
 abbrev pub stamp_of_first : Stamp
 stamp_of_first = record { entries = 1 ∷ replicate 15 0 }
 
+-- what that letter is made of
 abbrev pub first_parts : {B : Type 0} → B → Parts B
 first_parts body = parts stamp_of_first 0 body
 

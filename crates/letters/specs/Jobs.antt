@@ -1,5 +1,5 @@
 -- A job in a record: one to do, with its code, or one to take off the list.
-use Rattle.std.specs.Prelude.{◌≡◌, ℕ, ◌<◌, Bool, true, false, cond, not, ◌&&◌, ◌||◌, List, [], ◌∷◌, length, Some, None, Ok, Option, Result, ◌==◌, nat_lt, slice_index, refl}
+use Rattle.std.specs.Prelude.{◌≡◌, ℕ, Bool, true, false, cond, ◌&&◌, ◌||◌, List, ◌∷◌, length, Some, None, Ok, Option, Result, ◌==◌, nat_lt, slice_index, refl}
 use Rattle.std.proofs.lemmas.Bool.{and_parts, ltb-true}
 use Rattle.letters.specs.declared.job.Job.{Job}
 use Rattle.letters.specs.declared.job.Job.TheVariants.{Add, Strike}

@@ -1,6 +1,6 @@
 -- A job's bytes tell which job it is, and are right.
-use Rattle.std.specs.Prelude.{◌≡◌, ℕ, ◌+◌, ◌*◌, ◌/◌, ◌%◌, ◌<◌, ◌≤◌, Bool, true, false, ◌&&◌, ltb, List, [], ◌∷◌, length, Some, None, ◌==◌, nat_lt, slice_index, refl}
-use Rattle.std.proofs.Common.{ap, sym, ◌∙◌, ⊎_elim, arith}
+use Rattle.std.specs.Prelude.{◌≡◌, ℕ, ◌+◌, ◌*◌, ◌/◌, ◌%◌, ◌<◌, ◌≤◌, Bool, true, false, ◌&&◌, ltb, List, ◌∷◌, length, Some, None, ◌==◌, nat_lt, slice_index, refl}
+use Rattle.std.proofs.Common.{ap, sym, ⊎_elim, arith}
 use Rattle.std.proofs.lemmas.Bool.{lt-ltb, eqb-true, and_from, or_cases, true≢false}
 use Rattle.letters.specs.declared.job.Job.{Job}
 use Rattle.letters.specs.declared.job.Job.TheVariants.{Add, Strike}

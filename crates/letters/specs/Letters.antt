@@ -1,5 +1,5 @@
 -- What a letter is made of.
-use Rattle.std.specs.Prelude.{ℕ, ◌&&◌, Ok, Err, Result, nat_lt, slice_index}
+use Rattle.std.specs.Prelude.{ℕ, ◌&&◌, Ok, Result, nat_lt, slice_index}
 use Rattle.letters.specs.declared.letter.Letter.{Letter}
 use Rattle.letters.specs.declared.stamp.Stamp.{Stamp}
 use Rattle.letters.specs.Names.{Name, name}

@@ -1,5 +1,5 @@
 -- Bytes to a number and back.
-use Rattle.std.specs.Prelude.{◌≡◌, ℕ, ◌+◌, ◌*◌, ◌/◌, ◌%◌, ◌<◌, List, [], ◌∷◌}
+use Rattle.std.specs.Prelude.{◌≡◌, ℕ, ◌+◌, ◌*◌, ◌/◌, ◌%◌, ◌<◌, [], ◌∷◌}
 use Rattle.std.proofs.Common.{ap, ◌∙◌, arith}
 use Rattle.letters.specs.Numbers.{bytes_of_16, bytes_of_32}
 

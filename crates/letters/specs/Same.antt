@@ -1,5 +1,5 @@
 -- Values that agree in what the code holds are the same: a fact that a type keeps has one proof at most.
-use Rattle.std.specs.Prelude.{◌≡◌, ℕ, ◌-◌, ◌<◌, ◌≤◌, false, length, take, drop, replicate, is_some, slice_index}
+use Rattle.std.specs.Prelude.{◌≡◌, ◌-◌, ◌<◌, ◌≤◌, false, length, take, drop, replicate, is_some, slice_index}
 use mathlib.Core.HLevel.{is_prop→PathP}
 use denote.Struct.Props.{props}
 use Rattle.std.proofs.Math.Bridge.{le_prop}

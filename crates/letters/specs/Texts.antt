@@ -1,6 +1,6 @@
 -- A text in a record: its characters.
 use Rattle.std.specs.Prelude.{◌≡◌, ℕ, ◌-◌, ◌≤◌, Bool, true, false, not, List, [], length, take, replicate, is_some, Ok, Option, Result, ◌==◌, nat_le, refl}
-use Rattle.std.proofs.Common.{ap, sym, ◌∙◌, arith}
+use Rattle.std.proofs.Common.{ap, ◌∙◌, arith}
 use Rattle.std.proofs.lemmas.List.{take_at, drop_at, length-append, length-replicate}
 use Rattle.std.proofs.lemmas.Bool.{leb-true, true≢false}
 use Rattle.letters.specs.declared.text.Text.{Text}

@@ -1,11 +1,11 @@
 -- A text's bytes tell which text it is, and are right.
-use Rattle.std.specs.Prelude.{◌≡◌, ℕ, ◌-◌, ◌≤◌, Bool, true, false, List, ◌++◌, length, drop, replicate, is_some, Some, None, Option, nat_le, refl}
+use Rattle.std.specs.Prelude.{◌≡◌, ℕ, ◌-◌, Bool, true, false, List, ◌++◌, length, drop, replicate, is_some, Some, None, Option, nat_le, refl}
 use Rattle.std.proofs.Common.{ap, sym, ◌∙◌, arith}
 use Rattle.std.proofs.lemmas.List.{take-append-drop, length-take-le, drop-replicate}
 use Rattle.std.proofs.lemmas.Bool.{le-leb, leb-true, true≢false}
 use Rattle.letters.specs.declared.text.Text.{Text}
 use Rattle.letters.specs.Characters.{longest_text, printable, text_wrong}
-use Rattle.letters.specs.Forms.{Lawful, body_space}
+use Rattle.letters.specs.Forms.{Lawful}
 use Rattle.letters.specs.Numbers.{padded}
 use Rattle.letters.specs.Texts.{text_bytes, text_form, text_made, text_of, text_or_none}
 use Rattle.letters.specs.ChecksLemmas.{near_check, near_failing}

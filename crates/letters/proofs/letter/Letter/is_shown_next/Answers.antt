@@ -1,4 +1,3 @@
-use Rattle.std.proofs.Common.{◌≡◌}
 use Rattle.std.proofs.lemmas.Bool.Decides.{Decides-at}
 use Rattle.letters.specs.Order.{ready}
 use Rattle.letters.proofs.Readiness.{decides_ready}

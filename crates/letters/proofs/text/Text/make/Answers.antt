@@ -1,7 +1,7 @@
-use Rattle.std.proofs.Common.{◌≡◌, ℕ, false, List, length, take, drop, is_some, ap, ◌∙◌}
+use Rattle.std.proofs.Common.{◌≡◌, ℕ, List, length, take, drop, is_some, ap, ◌∙◌}
 use Rattle.letters.specs.Characters.{longest_text, text_wrong}
 use Rattle.letters.specs.Numbers.{padded}
-use Rattle.letters.specs.Texts.{text_made, short, front, long}
+use Rattle.letters.specs.Texts.{text_made, front}
 use Rattle.letters.specs.TextsLemmas.{laid}
 use Rattle.letters.proofs.text.Text.make.Goals as goal
 
