@@ -1,5 +1,5 @@
 -- What a reader answered tells what it found.
-use Rattle.std.proofs.Common.{◌≡◌, ℕ, get_or, Some, None, Ok, Err, Option, Result, refl, ap, ◌∙◌, arith}
+use Rattle.std.proofs.Common.{◌≡◌, ℕ, get_or, Some, None, Ok, Err, Option, Result, refl, ap, arith}
 use Rattle.records.specs.declared.fault.Fault.{Fault}
 use Rattle.records.specs.Readers.{Found, at_end, right, wrong, bad_record, fault_reason, next_answer, told_fault}
 

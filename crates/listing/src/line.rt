@@ -85,7 +85,7 @@ pub fn add_letter<B: Say>(
     body: &B,
     line: &mut Vec<u8>,
 ) -> Result<(), AllocError>
-    ensures { OnOk result (line.new.items ≡ line.old.items ++ letter_line says index (parts stamp.now poster body.now)) }
+    ensures { OnOk result (line.new.items ≡ line.old.items ++ letter_line B.says index (parts stamp.now poster body.now)) }
 {
     let number = stamp.entry(poster);
     add_words(line, format!(in heap; "{index} {poster}.{number} ")?)?;

@@ -25,8 +25,8 @@ pub fn add_next<B: Say>(
     page: &mut Page<B>,
     line: &mut Vec<u8>,
 ) -> Result<Step, AllocError>
-    ensures answer { IfOk result (λ step. step ≡ step_answer (found B.Body.form (ahead reader.old))) }
-    ensures line { OnOk result (line.new.items ≡ line.old.items ++ step_line B.Body.form says index (ahead reader.old) (found B.Body.form (ahead reader.old))) }
+    ensures answer { IfOk result (λ step. step ≡ step_answer (found B.form (ahead reader.old))) }
+    ensures line { OnOk result (line.new.items ≡ line.old.items ++ step_line B.form B.says index (ahead reader.old) (found B.form (ahead reader.old))) }
 {
     match reader.next(&mut page.stamp, &mut page.poster, &mut page.body) {
         Ok(Some(_read)) => {

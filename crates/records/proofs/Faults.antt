@@ -1,5 +1,5 @@
 -- Looking for the first fault of a file.
-use Rattle.std.proofs.Common.{◌≡◌, ℕ, zero, suc, ◌+◌, ◌-◌, ◌<◌, ◌≤◌, List, Some, None, Option, sym, refl, ap, ◌∙◌, arith}
+use Rattle.std.proofs.Common.{◌≡◌, ℕ, zero, suc, ◌+◌, ◌-◌, ◌<◌, List, Some, None, Option, refl, ap, ◌∙◌, arith}
 use Rattle.letters.specs.Forms.{Form}
 use Rattle.records.specs.declared.fault.Fault.{Fault}
 use Rattle.records.specs.Files.{fault_among, fault_or}

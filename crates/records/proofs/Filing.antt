@@ -1,6 +1,6 @@
 -- Files of letters, record by record.
-use Rattle.std.proofs.Common.{◌≡◌, ℕ, zero, suc, ◌+◌, ◌-◌, ◌*◌, ◌/◌, ◌<◌, ◌≤◌, List, [], ◌∷◌, ◌++◌, length, get_or, take, drop, set, None, sym, refl, ap, ◌∙◌, append_assoc, arith}
-use Rattle.std.proofs.lemmas.List.{flat_map_more, take-append-drop, take-take, drop-take, take_at, take_all, take_more, take_more_set, drop_at, drop_all, drop-set-lt, drop-drop, length-append, length-take-le, length-drop}
+use Rattle.std.proofs.Common.{◌≡◌, ℕ, zero, suc, ◌+◌, ◌*◌, ◌<◌, List, [], ◌∷◌, ◌++◌, length, get_or, take, drop, set, None, sym, refl, ap, ◌∙◌, arith}
+use Rattle.std.proofs.lemmas.List.{flat_map_more, take-append-drop, take-take, drop-take, take_at, take_more, take_more_set, drop_at, drop_all, drop-set-lt, drop-drop, length-append, length-drop}
 use Rattle.letters.specs.declared.letter.Letter.{Letter}
 use Rattle.letters.specs.Forms.{Form, Lawful}
 use Rattle.letters.specs.Letters.{parts_of}

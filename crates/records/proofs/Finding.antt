@@ -1,11 +1,11 @@
 -- What a reader does, by what it finds next.
-use Rattle.std.proofs.Common.{◌≡◌, ℕ, ◌-◌, ◌*◌, ◌<◌, ◌≤◌, true, false, eqb, List, length, take, drop, Some, None, Ok, Err, Option, sym, refl, ap, ◌∙◌, arith}
-use Rattle.std.proofs.lemmas.List.{length-drop, take_rest}
+use Rattle.std.proofs.Common.{◌≡◌, ℕ, ◌-◌, ◌*◌, ◌<◌, true, false, eqb, List, length, take, drop, Some, None, Ok, Err, Option, refl, ap, ◌∙◌, arith}
+use Rattle.std.proofs.lemmas.List.{take_rest}
 use Rattle.std.proofs.lemmas.Bool.{eq-eqb, ne_eqb}
 use Rattle.letters.specs.Forms.{Form}
 use Rattle.letters.specs.Letters.{Parts}
 use Rattle.records.specs.Reading.{Undoes, parts_left, read_answer}
-use Rattle.records.specs.Readers.{Found, at_end, right, wrong, found, left, looked_at}
+use Rattle.records.specs.Readers.{at_end, right, wrong, found, left, looked_at}
 use Rattle.records.specs.Records.{record_size, wrong_front}
 
 -- the part of the file that the reader looks at

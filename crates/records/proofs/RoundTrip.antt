@@ -1,10 +1,9 @@
 -- A letter's record is right, and writes that letter's parts and no others.
-use Rattle.std.proofs.Common.{◌≡◌, ℕ, ◌+◌, ◌-◌, ◌*◌, ◌<◌, ◌≤◌, true, false, ltb, leb, List, length, get_or, take, Some, None, Ok, Err, Option, Result, sym, refl, ap, ◌∙◌, subst, arith}
+use Rattle.std.proofs.Common.{◌≡◌, ℕ, ◌+◌, ◌-◌, ◌*◌, ◌<◌, ◌≤◌, true, false, ltb, leb, List, length, get_or, take, Some, None, Ok, Option, Result, sym, refl, ap, ◌∙◌, subst, arith}
 use Rattle.std.proofs.lemmas.List.{length-take-le}
 use Rattle.std.proofs.lemmas.Bool.{le-leb, lt-leb, lt-ltb, leb-true}
 use Rattle.letters.specs.declared.letter.Letter.{Letter}
-use Rattle.letters.specs.declared.stamp.Stamp.{Stamp}
-use Rattle.letters.specs.Checks.{check, first_failing}
+use Rattle.letters.specs.Checks.{first_failing}
 use Rattle.letters.specs.Forms.{Form, Lawful, body_space}
 use Rattle.letters.specs.Letters.{Parts, parts, parts_of, entry_at, letter_check}
 use Rattle.letters.specs.Numbers.{number_16}

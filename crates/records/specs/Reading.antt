@@ -3,7 +3,7 @@ use Rattle.std.specs.Prelude.{◌≡◌, ℕ, ◌≤◌, List, length, take, Som
 use Rattle.letters.specs.declared.letter.Letter.{Letter}
 use Rattle.letters.specs.Forms.{Form}
 use Rattle.letters.specs.Letters.{Parts, parts_of}
-use Rattle.records.specs.Records.{parts_record, parts_written, record_of, record_size, wrong_front}
+use Rattle.records.specs.Records.{parts_record, parts_written, record_size, wrong_front}
 
 -- a record in which nothing is wrong is read; else its first wrong byte is answered
 abbrev pub read_answer : Option ℕ → Result (Unit {0}) ℕ

@@ -4,7 +4,7 @@ ghost use Rattle.records.specs.Files.{load_reason};
 
 use crate::fault::Fault;
 
-// A refusal of a whole file. Its number and values stand in the definition `load-reason`.
+// A refusal of a whole file. Its number and values stand in the definition `load_reason`.
 #[derive(Clone, Copy)]
 pub enum LoadRefusal {
     // a record is bad

@@ -1,4 +1,4 @@
-use Rattle.std.proofs.Common.{◌≡◌, List, ◌++◌, vec_items, string_bytes, codes, decimal, ap, ◌∙◌}
+use Rattle.std.proofs.Common.{◌++◌, vec_items, string_bytes, codes, decimal, ap, ◌∙◌}
 use Rattle.letters.specs.Letters.{entry_at, parts}
 use Rattle.listing.specs.Lines.{commas, letter_line}
 use Rattle.listing.proofs.Written.{line_all, made_as}

@@ -1,4 +1,4 @@
-use Rattle.std.proofs.Common.{◌≡◌, ℕ, ◌<◌, List, sym, ap, ◌∙◌, arith, rules}
+use Rattle.std.proofs.Common.{ℕ, ◌<◌, List, sym, ap, ◌∙◌, rules}
 use Rattle.records.specs.Files.{begun_records}
 use Rattle.records.specs.Records.{wrong_front}
 use Rattle.records.proofs.Faults.{among_right, among_wrong}

@@ -1,8 +1,8 @@
-use Rattle.std.proofs.Common.{◌≡◌, ℕ, ◌*◌, ◌<◌, List, ◌++◌, length, take, drop, sym, ap, ◌∙◌, arith}
+use Rattle.std.proofs.Common.{◌≡◌, ℕ, ◌*◌, ◌<◌, ◌++◌, length, take, drop, ap, ◌∙◌, arith}
 use Rattle.std.proofs.lemmas.List.{length-take-le, take_all}
 use Rattle.records.specs.Buffers.{overlaid}
 use Rattle.records.specs.Files.{file_of}
-use Rattle.records.specs.Records.{record_of, record_size}
+use Rattle.records.specs.Records.{record_size}
 use Rattle.records.proofs.Filing.{length_file, save_more}
 use Rattle.records.proofs.RoundTrip.{record_long}
 use Rattle.records.proofs.file.write_all.Goals as goal

@@ -1,4 +1,4 @@
-use Rattle.std.proofs.Common.{◌≡◌, ℕ, List, get_or, sym, ◌∙◌, arith}
+use Rattle.std.proofs.Common.{ℕ, List, get_or, sym, ◌∙◌, arith}
 use Rattle.std.proofs.lemmas.Bool.{eq-eqb, ne_eqb}
 use Rattle.records.specs.Records.{is_zero}
 use Rattle.letters.specs.ChecksLemmas.{fails_here, passes_here, none_left}

@@ -1,7 +1,7 @@
-use Rattle.std.proofs.Common.{◌≡◌, ℕ, ◌<◌, ◌≤◌, List, length, take, sym, refl, ap, ◌∙◌, subst, arith}
+use Rattle.std.proofs.Common.{ℕ, ◌<◌, ◌≤◌, List, length, take, sym, refl, ap, ◌∙◌, subst, arith}
 use Rattle.letters.specs.Letters.{parts}
 use Rattle.records.specs.Reading.{LeftBy, read_answer}
-use Rattle.records.specs.Records.{record_size, wrong_front}
+use Rattle.records.specs.Records.{record_size}
 use Rattle.records.proofs.RoundTrip.{front_short, front_whole, left_exact, read_undoes}
 use Rattle.records.proofs.record.read_front.Goals as goal
 

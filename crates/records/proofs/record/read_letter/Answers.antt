@@ -1,4 +1,4 @@
-use Rattle.std.proofs.Common.{◌≡◌, ℕ, List, refl, ap, ◌∙◌}
+use Rattle.std.proofs.Common.{ℕ, List, refl, ap, ◌∙◌}
 use Rattle.letters.specs.Letters.{parts}
 use Rattle.records.specs.Records.{parts_record, poster_byte}
 use Rattle.records.proofs.RoundTrip.{made-check, read_back}

@@ -1,8 +1,8 @@
-use Rattle.std.proofs.Common.{◌≡◌, ℕ, ◌*◌, ◌<◌, List, length, Some, None, Ok, Err, Option, Result, sym, refl, ap, ◌∙◌, subst, arith}
+use Rattle.std.proofs.Common.{◌≡◌, ℕ, ◌*◌, ◌<◌, List, length, Some, None, Ok, Err, Option, Result, sym, refl, ap, ◌∙◌, arith}
 use Rattle.std.proofs.lemmas.List.{length-drop}
 use Rattle.letters.specs.Letters.{parts}
 use Rattle.records.specs.declared.fault.Fault.{Fault}
-use Rattle.records.specs.Reading.{Undoes, parts_left, read_answer}
+use Rattle.records.specs.Reading.{parts_left, read_answer}
 use Rattle.records.specs.Readers.{ahead, next_answer, next_index, next_parts}
 use Rattle.records.specs.Records.{record_size, wrong_front}
 use Rattle.records.proofs.Finding.{found_end, found_right, found_wrong, next_part, undoes_none}
