@@ -5,7 +5,6 @@ ghost use Rattle.std.specs.Prelude.{◌≤◌};
 
 use carriers::carrier::Carrier;
 use carriers::lines::Lines;
-use letters::body::Body;
 use letters::job::Job;
 use letters::letter::Letter;
 use letters::refusal::Refusal;
