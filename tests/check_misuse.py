@@ -47,8 +47,7 @@ SPEND = """// Spends a docket.
 use carriers::carrier::Carrier;
 use letters::body::Body;
 use letters::letter::Letter;
-use rooms::docket::Docket;
-use rooms::docket::Returned;
+use rooms::docket::{Docket, Returned};
 use rooms::room::Room;
 
 pub fn spend<B: Body, C: Carrier<Body = B>>(
