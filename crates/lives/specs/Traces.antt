@@ -1,5 +1,6 @@
 -- What was asked of a room and what it answered, and what happened by that: no word of stamps.
 use Rattle.std.specs.Prelude.{ℕ, List, [], ◌∷◌, Ok, Err, Result}
+use Rattle.letters.specs.declared.refusal.Refusal.{Refusal}
 use Rattle.letters.specs.Names.{Name, name, name_of}
 use Rattle.letters.specs.Refusals.{Reason, reason}
 use Rattle.causality.specs.History.{History, posted, shown}
@@ -43,12 +44,12 @@ shows (Ok i) = showed i
 shows (Err why) = refused why
 
 -- an answer that a step gave
-abbrev pub answer_of : Reply → Answer
-answer_of (replies.Docket room seat number) = docket (slip room seat number)
-answer_of replies.Done = done
-answer_of (replies.Taken t) = taken (taken_as t).0 (taken_as t).1
-answer_of (replies.Shown id) = showed (name_of id)
-answer_of (replies.Refused why) = refused (reason why)
+abbrev pub answer_of : Result Reply Refusal → Answer
+answer_of (Ok (replies.Docket room seat number)) = docket (slip room seat number)
+answer_of (Ok replies.Done) = done
+answer_of (Ok (replies.Taken t)) = taken (taken_as t).0 (taken_as t).1
+answer_of (Ok (replies.Shown id)) = showed (name_of id)
+answer_of (Err why) = refused (reason why)
 
 -- a step that was made, with its answer
 pub record Made (B : Type 0) : Type 0 where

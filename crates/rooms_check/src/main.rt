@@ -93,7 +93,6 @@ fn print_reply(rt: &HostRuntime, reply: Reply) -> io::Result<()> {
         Reply::Done => println!(rt; "done"),
         Reply::Taken(taken) => print_taken(rt, taken),
         Reply::Shown(id) => print_named(rt, "shown", id),
-        Reply::Refused(why) => print_refusal(rt, why),
     }
 }
 
@@ -168,10 +167,10 @@ fn make_steps<C: Carrier<Body = Job>>(
 ) -> io::Result<()> {
     for bytes in steps.chunks_exact(12) {
         match read_move(bytes) {
-            Ok(asked) => {
-                let reply = room.step(logs, holds, carrier, asked);
-                print_reply(rt, reply)?;
-            }
+            Ok(asked) => match room.step(logs, holds, carrier, asked) {
+                Ok(reply) => print_reply(rt, reply)?,
+                Err(why) => print_refusal(rt, why)?,
+            },
             Err(why) => print_refusal(rt, why)?,
         }
     }

@@ -28,20 +28,33 @@ impl Room {
         ensures room { state self.new ≡ docket_room (state self.old) docket.seat Send (send_answer (state self.old) logs.now (length holds.now) (C.Carrier.meaning carrier.old) (slip docket)) }
         ensures carrier { PutOf (C.Carrier.meaning carrier.old) (send_letter (state self.old) logs.now (length holds.now) (C.Carrier.meaning carrier.old).seats (slip docket)) (send_answer (state self.old) logs.now (length holds.now) (C.Carrier.meaning carrier.old) (slip docket)) (C.Carrier.meaning carrier.new) }
     {
-        let letter = match self.letter_to_send(logs, holds.len(), carrier.seats(), &docket) {
-            Ok(letter) => letter,
-            Err(refusal) => return Err(Returned { docket, refusal }),
-        };
-        if let Err(refusal) = carrier.put(&letter) {
-            return Err(Returned { docket, refusal });
+        match self.put_letter(logs, holds, carrier, &docket) {
+            Ok(()) => {
+                let Docket {
+                    room: _,
+                    seat,
+                    number: _,
+                } = docket;
+                self.note_docket(seat, DocketEvent::Send);
+                Ok(())
+            }
+            Err(refusal) => Err(Returned { docket, refusal }),
         }
-        let Docket {
-            room: _,
-            seat,
-            number: _,
-        } = docket;
-        self.note_docket(seat, DocketEvent::Send);
-        Ok(())
+    }
+
+    // Puts the letter that a docket is for on the carrier.
+    fn put_letter<B: Body, C: Carrier<Body = B>>(
+        &self,
+        logs: &[Letter<B>],
+        holds: &[Letter<B>],
+        carrier: &mut C,
+        docket: &Docket,
+    ) -> Result<(), Refusal>
+        ensures answer { told (λ u. u) result ≡ send_answer (state self.now) logs.now (length holds.now) (C.Carrier.meaning carrier.old) (slip docket.now) }
+        ensures carrier { PutOf (C.Carrier.meaning carrier.old) (send_letter (state self.now) logs.now (length holds.now) (C.Carrier.meaning carrier.old).seats (slip docket.now)) (send_answer (state self.now) logs.now (length holds.now) (C.Carrier.meaning carrier.old) (slip docket.now)) (C.Carrier.meaning carrier.new) }
+    {
+        let letter = self.letter_to_send(logs, holds.len(), carrier.seats(), docket)?;
+        carrier.put(&letter)
     }
 
     // The letter that a docket is for.
