@@ -1,5 +1,5 @@
 // A room's whole life: it opens and makes one step after the other.
-ghost use Rattle.std.specs.Prelude.{◌≡◌, ◌<◌, ◌≤◌, [], length, drop, Ok, slice_set};
+ghost use Rattle.std.specs.Prelude.{◌≡◌, ◌≤◌, [], length, drop, Ok};
 ghost use Rattle.letters.specs.Refusals.{told};
 ghost use Rattle.lives.specs.Traces.{answer_of, traced};
 ghost use Rattle.lives.specs.Worked.{Leads, Worked, moment};
@@ -69,16 +69,7 @@ fn step_all<B: Body, C: Carrier<Body = B>>(
     ensures leads { Leads (moment (state room.old) logs.old holds.old (C.Carrier.meaning carrier.old)) (traced answer_of [] steps.now replies.new) (moment (state room.new) logs.new holds.new (C.Carrier.meaning carrier.new)) }
     ensures rest { drop (length steps.now) replies.new ≡ drop (length steps.now) replies.old }
 {
-    for i in 0..steps.len() {
-        let reply = room.step(logs, holds, carrier, steps[i]);
-        note(replies, i, reply);
+    for (i, asked) in steps.iter().enumerate() {
+        replies[i] = room.step(logs, holds, carrier, *asked);
     }
-}
-
-// Writes a reply down at its place.
-fn note(replies: &mut [Result<Reply, Refusal>], i: usize, reply: Result<Reply, Refusal>)
-    requires { i < length replies.old }
-    ensures { replies.new ≡ slice_set replies.old i reply }
-{
-    replies[i] = reply;
 }

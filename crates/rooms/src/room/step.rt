@@ -1,6 +1,6 @@
 // One step, whichever it is.
 ghost use Rattle.std.specs.Prelude.{◌≡◌};
-ghost use Rattle.lives.specs.Traces.{answer_of, slip};
+ghost use Rattle.lives.specs.Traces.{answer_of};
 ghost use Rattle.lives.specs.Worked.{Step, WorksOn, moment};
 ghost use Rattle.rooms.specs.Asked.{answer_as, brought, move_of, returned, to_return};
 ghost use Rattle.rooms.specs.States.{state};
