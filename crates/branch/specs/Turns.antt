@@ -5,7 +5,8 @@ use Rattle.letters.specs.declared.letter.Letter.{Letter}
 use Rattle.letters.specs.Names.{name_of}
 use Rattle.letters.specs.Refusals.{Reason, reason}
 use Rattle.carriers.specs.Meaning.{Meaning}
-use Rattle.seats.specs.Outcomes.{Slip, taken_as}
+use Rattle.seats.specs.declared.slip.Slip.{Slip}
+use Rattle.seats.specs.Outcomes.{taken_as}
 use Rattle.seats.specs.Rooms.{RoomState}
 use Rattle.lives.specs.declared.moves.Move.{Move}
 use Rattle.lives.specs.declared.moves.Move.TheVariants.{Collect, Park, Post, Send, Show, Take}

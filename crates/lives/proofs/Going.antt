@@ -15,7 +15,8 @@ use Rattle.causality.specs.Runs as runs
 use Rattle.causality.specs.Steps as steps
 use Rattle.seats.specs.declared.seat.DocketEvent.{DocketEvent}
 use Rattle.seats.specs.declared.seat.DocketEvent.TheVariants.{Send, Park, Collect}
-use Rattle.seats.specs.Outcomes.{PostLogs, PutOf, Slip, Take, Takes, Taking, stray, repeat, held, after, collect_answer, docket_room, park_answer, post_answer, posted_room, put_letter, send_letter, show_answer, show_holds, show_logs, show_outcome, show_room, take_check, taken_holds, taken_room, taking}
+use Rattle.seats.specs.declared.slip.Slip.{Slip}
+use Rattle.seats.specs.Outcomes.{PostLogs, PutOf, Take, Takes, Taking, stray, repeat, held, after, collect_answer, docket_room, park_answer, post_answer, posted_room, put_letter, send_letter, show_answer, show_holds, show_logs, show_outcome, show_room, take_check, taken_holds, taken_room, taking}
 use Rattle.seats.specs.Rooms.{RoomState, foot, seat_at, start, with_seat}
 use Rattle.seats.specs.Seats.{allows, docketed, moved}
 use Rattle.lives.specs.declared.moves.Move.{Move}

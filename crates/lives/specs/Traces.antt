@@ -4,7 +4,8 @@ use Rattle.letters.specs.declared.refusal.Refusal.{Refusal}
 use Rattle.letters.specs.Names.{Name, name, name_of}
 use Rattle.letters.specs.Refusals.{Reason, reason}
 use Rattle.causality.specs.History.{History, posted, shown}
-use Rattle.seats.specs.Outcomes.{Slip, Taking, taken_as}
+use Rattle.seats.specs.declared.slip.Slip.{Slip}
+use Rattle.seats.specs.Outcomes.{Taking, taken_as}
 use Rattle.lives.specs.declared.moves.Move.{Move}
 use Rattle.lives.specs.declared.moves.Move.TheVariants as moves
 use Rattle.lives.specs.declared.reply.Reply.{Reply}

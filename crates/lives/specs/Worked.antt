@@ -5,7 +5,8 @@ use Rattle.letters.specs.Names.{Name}
 use Rattle.letters.specs.Refusals.{Reason}
 use Rattle.carriers.specs.Meaning.{Empty, Lawful, Meaning}
 use Rattle.seats.specs.declared.seat.DocketEvent.TheVariants.{Send, Park, Collect}
-use Rattle.seats.specs.Outcomes.{PostLogs, PutOf, Slip, Take, Taking, after, collect_answer, docket_room, park_answer, post_answer, posted_room, send_answer, send_letter, show_answer, show_holds, show_logs, show_outcome, show_room, take_check}
+use Rattle.seats.specs.declared.slip.Slip.{Slip}
+use Rattle.seats.specs.Outcomes.{PostLogs, PutOf, Take, Taking, after, collect_answer, docket_room, park_answer, post_answer, posted_room, send_answer, send_letter, show_answer, show_holds, show_logs, show_outcome, show_room, take_check}
 use Rattle.seats.specs.Rooms.{RoomState, start}
 use Rattle.seats.specs.Seats.{fresh}
 use Rattle.lives.specs.declared.moves.Move.{Move}
