@@ -46,7 +46,7 @@ shows (Err why) = refused why
 
 -- an answer that a step gave
 abbrev pub answer_of : Result Reply Refusal → Answer
-answer_of (Ok (replies.Docket room seat number)) = docket (slip room seat number)
+answer_of (Ok (replies.Docket d)) = docket d
 answer_of (Ok replies.Done) = done
 answer_of (Ok (replies.Taken t)) = taken (taken_as t).0 (taken_as t).1
 answer_of (Ok (replies.Shown id)) = showed (name_of id)
@@ -98,8 +98,8 @@ module _ {B : Type 0} where
   -- the events after one step more
   abbrev pub happened : Move B → Answer → History Name → History Name
   happened (moves.Post s body) answer past = by_post s answer past
-  happened (moves.Send room seat number) answer past = past
-  happened (moves.Park room seat number) answer past = past
+  happened (moves.Send d) answer past = past
+  happened (moves.Park d) answer past = past
   happened (moves.Collect s) answer past = past
   happened (moves.Take s place) answer past = past
   happened (moves.Show s) answer past = by_show s answer past
@@ -120,8 +120,8 @@ module _ {B : Type 0} where
   -- the posted letters after one step more
   abbrev pub with_step : Move B → Answer → List (Posting B) → List (Posting B)
   with_step (moves.Post s body) answer past = with_post s body answer past
-  with_step (moves.Send room seat number) answer past = past
-  with_step (moves.Park room seat number) answer past = past
+  with_step (moves.Send d) answer past = past
+  with_step (moves.Park d) answer past = past
   with_step (moves.Collect s) answer past = past
   with_step (moves.Take s place) answer past = past
   with_step (moves.Show s) answer past = past

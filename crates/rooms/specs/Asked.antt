@@ -17,8 +17,8 @@ use Rattle.rooms.specs.States.{slip}
 -- what is asked
 abbrev pub move_of : {B : Type 0} → Ask B → Move B
 move_of (asks.Post s body) = moves.Post s body
-move_of (asks.Send d) = moves.Send d.room d.seat d.number
-move_of (asks.Park d) = moves.Park d.room d.seat d.number
+move_of (asks.Send d) = moves.Send (slip d)
+move_of (asks.Park d) = moves.Park (slip d)
 move_of (asks.Collect s) = moves.Collect s
 move_of (asks.Take s place) = moves.Take s place
 move_of (asks.Show s) = moves.Show s

@@ -13,6 +13,7 @@ use letters::letter::Letter;
 use letters::refusal::Refusal;
 use seats::finding::find_named;
 use seats::seat::DocketEvent;
+use seats::slip::Slip;
 
 impl Room {
     // Puts the docket's letter, the first such in the seat's log, on the carrier. Refused with 5, 6, 12, 19, 11.
@@ -30,12 +31,7 @@ impl Room {
     {
         match self.put_letter(logs, holds, carrier, &docket) {
             Ok(()) => {
-                let Docket {
-                    room: _,
-                    seat,
-                    number: _,
-                } = docket;
-                self.note_docket(seat, DocketEvent::Send);
+                self.note_docket(docket.into_slip().seat, DocketEvent::Send);
                 Ok(())
             }
             Err(refusal) => Err(Returned { docket, refusal }),
@@ -71,7 +67,8 @@ impl Room {
         if !self.knows(docket) {
             return Err(Refusal::WrongDocket);
         }
-        match find_named(self.log_part(logs, docket.seat), docket.seat, docket.number) {
+        let Slip { seat, number, .. } = docket.slip();
+        match find_named(self.log_part(logs, seat), seat, number) {
             Some((_, letter)) => Ok(letter),
             None => Err(Refusal::LetterMissing),
         }

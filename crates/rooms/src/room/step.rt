@@ -70,8 +70,8 @@ fn read_in<B: Body>(asked: Move<B>) -> Ask<B>
 {
     match asked {
         Move::Post(seat, body) => Ask::Post(seat, body),
-        Move::Send(room, seat, number) => Ask::Send(Docket { room, seat, number }),
-        Move::Park(room, seat, number) => Ask::Park(Docket { room, seat, number }),
+        Move::Send(slip) => Ask::Send(Docket::of(slip)),
+        Move::Park(slip) => Ask::Park(Docket::of(slip)),
         Move::Collect(seat) => Ask::Collect(seat),
         Move::Take(seat, place) => Ask::Take(seat, place),
         Move::Show(seat) => Ask::Show(seat),
@@ -83,21 +83,13 @@ fn write_out(answer: Result<Answer, Declined>) -> Result<Reply, Refusal>
     ensures { answer_of result ≡ answer_as answer }
 {
     match answer {
-        Ok(Answer::Docket(docket)) => Ok(tell_numbers(docket)),
+        Ok(Answer::Docket(docket)) => Ok(Reply::Docket(docket.into_slip())),
         Ok(Answer::Done) => Ok(Reply::Done),
         Ok(Answer::Taken(taken)) => Ok(Reply::Taken(taken)),
         Ok(Answer::Shown(id)) => Ok(Reply::Shown(id)),
         Err(Declined { refusal, docket }) => {
-            let _ = docket.map(tell_numbers);
+            let _ = docket.map(Docket::into_slip);
             Err(refusal)
         }
     }
-}
-
-// The numbers of a docket.
-fn tell_numbers(docket: Docket) -> Reply
-    ensures { result ≡ Reply.Docket docket.room docket.seat docket.number }
-{
-    let Docket { room, seat, number } = docket;
-    Reply::Docket(room, seat, number)
 }
