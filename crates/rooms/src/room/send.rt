@@ -68,7 +68,8 @@ impl Room {
             return Err(Refusal::WrongDocket);
         }
         let Slip { seat, number, .. } = docket.slip();
-        match find_named(self.log_part(logs, seat), seat, number) {
+        let log = self.log_part(logs, seat, &self.seats[seat as usize]);
+        match find_named(log, seat, number) {
             Some((_, letter)) => Ok(letter),
             None => Err(Refusal::LetterMissing),
         }

@@ -82,9 +82,10 @@ impl Room {
         if self.is_repeat(holds, seat, letter) {
             return Taken::Repeat(id);
         }
-        let end = self.start(seat) + self.seats[seat as usize].held as usize;
-        put(holds, end, *letter);
-        self.note_take(seat);
+        let mut taker = self.seats[seat as usize];
+        put(holds, self.start(seat) + taker.held as usize, *letter);
+        let _ = taker.hold(self.terms.places());
+        self.tell(seat, taker);
         Taken::Held(id)
     }
 
@@ -108,19 +109,10 @@ impl Room {
     {
         let poster = letter.poster();
         let number = letter.number();
-        if number <= self.seats[seat as usize].clock.entry(poster) {
+        let taker = self.seats[seat as usize];
+        if number <= taker.clock.entry(poster) {
             return true;
         }
-        find_named(self.hold_part(holds, seat), poster, number).is_some()
-    }
-
-    // Tells the seat that it holds one letter more.
-    fn note_take(&mut self, seat: u8)
-        requires { (seat < self.old.terms.count) × ((seat_at (state self.old) seat).held < self.old.terms.count * self.old.terms.quota) }
-        ensures { state self.new ≡ with_seat (state self.old) seat (holding (seat_at (state self.old) seat)) }
-    {
-        let mut taker = self.seats[seat as usize];
-        let _ = taker.hold(self.terms.places());
-        self.tell(seat, taker);
+        find_named(self.hold_part(holds, seat, &taker), poster, number).is_some()
     }
 }

@@ -10,7 +10,7 @@ pub dispatch-requires : goal.dispatch-requires
 dispatch-requires g c =
     let st = state c.args.room.now in
     let sized : length st.seats ≡ 16 = c.args.room.now.table in
-    let few : st.count ≤ 16 = c.args.room.now.few in
+    let few : st.count ≤ 16 = c.args.room.now.terms.few in
     post_good st (state c.post.new.self) sized few (length c.args.logs.now) (length c.args.holds.now) c.args.seat (slip c.in-Ok.docket)
     c.in-Ok.ensures.answer c.post.ensures.room
 
