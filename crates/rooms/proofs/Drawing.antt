@@ -1,5 +1,5 @@
 -- What drawing up a seat's log answers and leaves.
-use Rattle.std.proofs.Common.{◌≡◌, ℕ, ◌*◌, ◌≤◌, List, length, drop, Ok, Err, Result, sym, refl, ap, ◌∙◌, arith, length-take}
+use Rattle.std.proofs.Common.{◌≡◌, ℕ, ◌*◌, ◌≤◌, List, length, drop, Ok, Err, Result, sym, ap, ◌∙◌, arith, length-take}
 use Rattle.std.proofs.lemmas.Bool.{le-leb}
 use Rattle.letters.specs.declared.letter.Letter.{Letter}
 use Rattle.letters.specs.declared.refusal.Refusal.{Refusal}
@@ -7,7 +7,7 @@ use Rattle.letters.specs.Refusals.{Reason, told, unless}
 use Rattle.carriers.specs.Meaning.{Kept}
 use Rattle.sheets.specs.Sheets.{Kind, draw_up_outcome, drawn_up}
 use Rattle.seats.specs.Keeping.{Sound}
-use Rattle.seats.specs.Outcomes.{answered, follows, seat_check}
+use Rattle.seats.specs.Outcomes.{follows, seat_check}
 use Rattle.seats.specs.Rooms.{RoomState, log_of, seat_at, start}
 use Rattle.seats.specs.Seats.{log_length}
 use Rattle.seats.proofs.Clocks.{log_fits}
@@ -17,15 +17,6 @@ use Rattle.rooms.specs.Drawing.{places_check, sheet_outcome}
 pub yes_kept : {X : Type 0} (r : Result (Unit {0}) Refusal) (x y : X) → told (λ u. u) r ≡ Ok tt → Kept r x y
 yes_kept (Ok done) x y e = tt
 yes_kept (Err why) x y e = absurd (let z : ◌≡◌ {A = ℕ} 0 1 = cc in omega arith)
-
--- an accepted check, and what it answers
-pub record Says {X : Type 0} (r : Result (Unit {0}) Reason) (x y : X) : Type 0 where
-  pub can : Ok tt ≡ r
-  pub is : x ≡ y
-
-pub says : {X : Type 0} (r : Result (Unit {0}) Reason) (x y : X) → Ok x ≡ answered r y → Says r x y
-says (Ok done) x y e = record { can = refl; is = cc }
-says (Err why) x y e = absurd (let z : ◌≡◌ {A = ℕ} 0 1 = cc in omega arith)
 
 -- what drawing up a log comes to, and that it is accepted
 pub record GoesUp {M B : Type 0} (kind : Kind M B) (log : List (Letter B)) (outcome : Result M Reason) : Type 0 where

@@ -1,5 +1,5 @@
 // What is settled of a room before it opens.
-ghost use Rattle.std.specs.Prelude.{◌≡◌, ◌*◌, ◌≤◌};
+ghost use Rattle.std.specs.Prelude.{◌≡◌, ◌*◌, ◌≤◌, ◌&&◌, nat_le};
 
 // The terms of a room: its number, its quota, and the names of the boxes that are enrolled.
 #[derive(Drop)]
@@ -19,5 +19,13 @@ impl Terms {
         ensures { result ≡ self.now.count * self.now.quota }
     {
         self.count as u16 * self.quota
+    }
+
+    // Whether both letter tables have all places of every seat.
+    pub(crate) fn suffice(&self, logs: usize, holds: usize) -> bool
+        ensures { let whole = self.now.count * (self.now.count * self.now.quota) in result ≡ (nat_le whole logs && nat_le whole holds) }
+    {
+        let whole = self.count as usize * self.places() as usize;
+        whole <= logs && whole <= holds
     }
 }

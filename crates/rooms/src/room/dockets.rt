@@ -39,7 +39,7 @@ impl Room {
         if !poster.move_docket(DocketEvent::Collect) {
             return Err(Refusal::NotParked);
         }
-        self.note_docket(seat, DocketEvent::Collect);
+        self.tell(seat, poster);
         Ok(Docket::of(self.newest(seat, &poster)))
     }
 
@@ -70,8 +70,8 @@ impl Room {
         requires { seat < self.old.terms.count }
         ensures { state self.new ≡ with_seat (state self.old) seat (docketed (seat_at (state self.old) seat) event) }
     {
-        let mut poster = self.seats[seat as usize];
-        let _ = poster.move_docket(event);
-        self.tell(seat, poster);
+        let mut told = self.seats[seat as usize];
+        let _ = told.move_docket(event);
+        self.tell(seat, told);
     }
 }

@@ -3,7 +3,7 @@ ghost use Rattle.std.specs.Prelude.{◌≡◌, ◌+◌, ◌<◌, ◌≤◌, repl
 ghost use Rattle.letters.specs.Refusals.{told};
 ghost use Rattle.seats.specs.Keeping.{Kept};
 ghost use Rattle.seats.specs.Outcomes.{answered, seat_check};
-ghost use Rattle.seats.specs.Rooms.{seat_at, start, suffice, with_seat};
+ghost use Rattle.seats.specs.Rooms.{seat_at, start, with_seat};
 ghost use Rattle.seats.specs.Seats.{fresh, log_length};
 ghost use Rattle.rooms.specs.Reading.{seat_answer};
 ghost use Rattle.rooms.specs.States.{state};
@@ -52,14 +52,6 @@ impl Room {
         s as usize * self.terms.places() as usize
     }
 
-    // Whether both letter tables have a place for every letter of every seat.
-    pub(crate) fn suffice(&self, logs: usize, holds: usize) -> bool
-        ensures { result ≡ suffice (state self.now) logs holds }
-    {
-        let whole = self.start(self.terms.count);
-        whole <= logs && whole <= holds
-    }
-
     // The place after the last letter of the log of seat s, which is copied out.
     pub(crate) fn foot(&self, s: u8, seat: &Seat) -> usize
         ensures { result ≡ start (state self.now) s + log_length seat.now }
@@ -105,7 +97,7 @@ impl Room {
     pub(crate) fn visit(&self, logs: usize, holds: usize, s: u8) -> Result<Seat, Refusal>
         ensures { told (λ x. x) result ≡ answered (seat_check (state self.now) logs holds s) (seat_at (state self.now) s) }
     {
-        if !self.suffice(logs, holds) {
+        if !self.terms.suffice(logs, holds) {
             return Err(Refusal::TooShort);
         }
         self.seat(s)

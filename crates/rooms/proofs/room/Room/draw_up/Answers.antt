@@ -4,8 +4,8 @@ use Rattle.seats.specs.Rooms.{start}
 use Rattle.seats.specs.Seats.{log_length}
 use Rattle.lives.proofs.Keeping.{always_keeps}
 use Rattle.rooms.specs.States.{state}
-use Rattle.rooms.proofs.Drawing.{goes_up, says, yes_kept}
-use Rattle.rooms.proofs.Rooms.{sound}
+use Rattle.rooms.proofs.Drawing.{goes_up, yes_kept}
+use Rattle.rooms.proofs.Rooms.{says, sound}
 use Rattle.rooms.proofs.room.Room.draw_up.Goals as goal
 
 pub returns : goal.returns
