@@ -1,6 +1,8 @@
 -- What it says that every check passed, and where checks look.
-use Rattle.std.specs.Prelude.{◌≡◌, ℕ, zero, suc, ◌+◌, ◌<◌, ◌≤◌, Bool, true, false, cond, List, [], ◌∷◌, length, drop, Some, None, Option, slice_index, refl}
+use Rattle.std.specs.Prelude.{◌≡◌, ℕ, zero, suc, ◌+◌, ◌<◌, ◌≤◌, Bool, true, false, not, cond, List, [], ◌∷◌, length, drop, Some, None, Option, slice_index, refl}
+use Rattle.std.specs.List.{position, position_from}
 use Rattle.std.proofs.Common.{◌∙◌, arith}
+use Rattle.std.proofs.lemmas.Iterator.Adapters.{position_from-zero}
 use Rattle.std.proofs.lemmas.List.{at_drop_more, at_drop_all}
 use Rattle.letters.specs.Checks.{check, first_failing}
 use Rattle.letters.specs.Forms.{Near, body_space}
@@ -20,7 +22,19 @@ pub near_cond : (test : Bool) (x y : Option ℕ) → Near x → Near y → Near 
 near_cond true x y h k = h
 near_cond false x y h k = k
 
+cond_check : (test : Bool) (place : ℕ) (x y : Option ℕ) → x ≡ y → cond (not test) (Some place) x ≡ check test place y
+cond_check true place x y e = e
+cond_check false place x y e = refl
+
 module _ (test : ℕ → Bool) where
+  position_failing : (place : ℕ) (bs : List ℕ) → position_from (λ b. not (test b)) place bs ≡ first_failing test place bs
+  position_failing place [] = refl
+  position_failing place (b ∷ bs) = cond_check (test b) place _ _ (position_failing (place + 1) bs)
+
+  -- the first element that fails a test is the first that passes the opposite one
+  pub first_position : (bs : List ℕ) → position (λ b. not (test b)) bs ≡ first_failing test 0 bs
+  first_position bs = position_from-zero (λ b. not (test b)) bs ∙ position_failing 0 bs
+
   -- one element of a scan
   pub fails_here : (bs : List ℕ) (k : ℕ) → k < length bs → test (slice_index bs k) ≡ false → first_failing test k (drop k bs) ≡ Some k
   fails_here bs k h e = at_drop_more (first_failing test k) bs k 0 h ∙ rw e
