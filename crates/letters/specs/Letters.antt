@@ -1,7 +1,7 @@
 -- What a letter is made of.
 use Rattle.std.specs.Prelude.{ℕ, ◌&&◌, Ok, Result, nat_lt, slice_index}
 use Rattle.letters.specs.declared.letter.Letter.{Letter}
-pub use Rattle.letters.specs.declared.parts.Parts.{Parts}
+use Rattle.letters.specs.declared.parts.Parts.{Parts}
 use Rattle.letters.specs.declared.stamp.Stamp.{Stamp}
 use Rattle.letters.specs.Names.{Name, name}
 use Rattle.letters.specs.Refusals.{Reason, unless}
