@@ -9,7 +9,7 @@ ghost use Rattle.carriers.specs.Lines.{lines_answer, lines_of};
 
 use crate::carrier::Carrier;
 use crate::lines::Lines;
-use crate::rack::Rack;
+use crate::queue::{push_to, remove_from};
 use letters::body::Body;
 use letters::letter::Letter;
 use letters::parts::Parts;
@@ -35,10 +35,10 @@ impl<'a, B: Body> Lines<'a, B> {
         ensures seats { (lines_of result).seats ≡ seats }
         ensures size { result.size ≡ size }
         ensures empty { Empty (lines_of result) }
-        ensures table { result.rack.places.now ≡ places.old }
+        ensures table { result.places.now ≡ places.old }
     {
         Lines {
-            rack: Rack { places },
+            places,
             seats,
             size,
             counts: [0; 16],
@@ -64,7 +64,8 @@ impl<'a, B: Body> Lines<'a, B> {
         let at = seat as usize;
         let count = self.counts[at];
         let size = self.size as usize;
-        self.rack.push(at * size, size, count, letter);
+        let start = at * size;
+        push_to(&mut self.places[start..start + size], count, letter);
         self.counts[at] = count + 1;
     }
 
@@ -78,7 +79,8 @@ impl<'a, B: Body> Lines<'a, B> {
         let at = seat as usize;
         let count = self.counts[at];
         let size = self.size as usize;
-        let letter = self.rack.remove(at * size, size, count, place);
+        let start = at * size;
+        let letter = remove_from(&mut self.places[start..start + size], count, place);
         self.counts[at] = count - 1;
         letter
     }
@@ -113,7 +115,7 @@ impl<'a, B: Body> Carrier for Lines<'a, B> {
         ensures leaves { PutLeaves result (lines_of self.old) letter.now.poster letter.now (lines_of self.new) }
         ensures exact { Appends result (lines_of self.old) letter.now.poster letter.now (lines_of self.new) }
         ensures size { self.new.size ≡ self.old.size }
-        ensures kept { Kept result self.old.rack.places.now self.new.rack.places.now }
+        ensures kept { Kept result self.old.places.now self.new.places.now }
     {
         let poster = letter.poster();
         if poster >= self.seats {
@@ -135,7 +137,7 @@ impl<'a, B: Body> Carrier for Lines<'a, B> {
         ensures answer { told (λ u. u) result ≡ draw_answer (lines_of self.old) seat place }
         ensures leaves { DrawLeaves parts_of result (lines_of self.old) seat place (lines_of self.new) parts.old parts.new }
         ensures size { self.new.size ≡ self.old.size }
-        ensures kept { Kept result self.old.rack.places.now self.new.rack.places.now }
+        ensures kept { Kept result self.old.places.now self.new.places.now }
     {
         if seat >= self.seats {
             return Err(Refusal::UnknownSeat);
