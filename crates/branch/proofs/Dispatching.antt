@@ -9,7 +9,8 @@ use Rattle.causality.specs.declared.docket.DocketState.{DocketState}
 use Rattle.causality.specs.declared.docket.DocketState.TheVariants.{Clear, Out, Parked}
 use Rattle.seats.specs.declared.seat.DocketEvent.TheVariants.{Post, Send, Collect}
 use Rattle.seats.specs.declared.seat.Seat.{Seat}
-use Rattle.seats.specs.Outcomes.{Slip, answered, collect_answer, docket_room, good_slip, park_answer, post_answer, post_check, posted_room, posted_seat, slip_of}
+use Rattle.seats.specs.declared.slip.Slip.{Slip}
+use Rattle.seats.specs.Outcomes.{answered, collect_answer, docket_room, good_slip, park_answer, post_answer, post_check, posted_room, posted_seat, slip_of}
 use Rattle.seats.specs.Rooms.{RoomState, seat_at, with_seat}
 use Rattle.seats.specs.Seats.{allows, blank, clock_at, docketed, moved}
 use Rattle.seats.proofs.Accepted.{postable}

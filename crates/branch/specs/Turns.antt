@@ -5,7 +5,8 @@ use Rattle.letters.specs.declared.letter.Letter.{Letter}
 use Rattle.letters.specs.Names.{name_of}
 use Rattle.letters.specs.Refusals.{Reason, reason}
 use Rattle.carriers.specs.Meaning.{Meaning}
-use Rattle.seats.specs.Outcomes.{Slip, taken_as}
+use Rattle.seats.specs.declared.slip.Slip.{Slip}
+use Rattle.seats.specs.Outcomes.{taken_as}
 use Rattle.seats.specs.Rooms.{RoomState}
 use Rattle.lives.specs.declared.moves.Move.{Move}
 use Rattle.lives.specs.declared.moves.Move.TheVariants.{Collect, Park, Post, Send, Show, Take}
@@ -19,9 +20,9 @@ use Rattle.branch.specs.declared.outcome.Outcome.TheVariants as outcomes
 -- The calls on the room, with their answers and the newest first, by which a step has its outcome; none where it cannot have it.
 -- A post or a collect answers a docket, which is sent, and parked where that is refused.
 abbrev pub docket_calls : ℕ → Move Job → Outcome → Option (Trace Job)
-docket_calls room move (outcomes.Sent p n) = Some (made (Send room p n) done ∷ made move (docket (slip room p n)) ∷ [])
+docket_calls room move (outcomes.Sent p n) = Some (made (Send (slip room p n)) done ∷ made move (docket (slip room p n)) ∷ [])
 docket_calls room move (outcomes.Parked p n why) =
-    Some (made (Park room p n) done ∷ made (Send room p n) (refused (reason why)) ∷ made move (docket (slip room p n)) ∷ [])
+    Some (made (Park (slip room p n)) done ∷ made (Send (slip room p n)) (refused (reason why)) ∷ made move (docket (slip room p n)) ∷ [])
 docket_calls room move (outcomes.Taken t) = None
 docket_calls room move (outcomes.Shown id) = None
 docket_calls room move (outcomes.Refused why) = Some (made move (refused (reason why)) ∷ [])

@@ -11,7 +11,8 @@ use Rattle.causality.specs.Worlds.{Box}
 use Rattle.causality.specs.Steps.{Posts}
 use Rattle.seats.specs.declared.seat.Seat.{Seat}
 use Rattle.seats.specs.declared.seat.DocketEvent.TheVariants.{Post}
-use Rattle.seats.specs.Outcomes.{Posted, Slip, post_answer, posted_room, posted_seat, slip_of}
+use Rattle.seats.specs.declared.slip.Slip.{Slip}
+use Rattle.seats.specs.Outcomes.{Posted, post_answer, posted_room, posted_seat, slip_of}
 use Rattle.seats.specs.Rooms.{RoomState, log_of, seat_at, start, with_seat}
 use Rattle.seats.specs.Seats.{allows, clock_at, docketed, log_length, moved}
 use Rattle.lives.specs.Worked.{Moment, moment}

@@ -1,7 +1,7 @@
 -- A room and a docket by what they hold.
 use Rattle.std.specs.Prelude.{◌≡◌, Ok, Err, Result}
 use Rattle.letters.specs.Refusals.{Reason, reason}
-use Rattle.seats.specs.Outcomes.{Slip}
+use Rattle.seats.specs.declared.slip.Slip.{Slip}
 use Rattle.seats.specs.Rooms.{RoomState}
 use Rattle.rooms.specs.declared.docket.Docket.{Docket}
 use Rattle.rooms.specs.declared.docket.Returned.{Returned}

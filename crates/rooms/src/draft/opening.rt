@@ -66,12 +66,7 @@ impl Draft {
     fn has(&self, name: u32) -> bool
         ensures { result ≡ has (take self.now.count self.now.names) name }
     {
-        for seat in 0..self.count as usize {
-            if self.names[seat] == name {
-                return true;
-            }
-        }
-        false
+        self.names[..self.count as usize].contains(&name)
     }
 
     // Whether the room may open with these letter tables and this carrier. Refused with 4, 5, 6, 7.
@@ -123,10 +118,5 @@ impl Draft {
 fn is_quiet<C: Carrier>(carrier: &C, count: u8) -> bool
     ensures { result ≡ quiet (C.Carrier.meaning carrier.now) count }
 {
-    for seat in 0..count {
-        if carrier.waits(seat) > 0 {
-            return false;
-        }
-    }
-    true
+    (0..count).all(|seat| carrier.waits(seat) == 0)
 }

@@ -44,7 +44,7 @@ impl Room {
         let foot = self.foot(seat);
         let stamp = self.note_post(seat);
         put(logs, foot, Letter::make(stamp, seat, body));
-        self.newest(seat)
+        Docket::of(self.newest(seat))
     }
 
     // Whether the seat may post.
