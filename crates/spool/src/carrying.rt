@@ -11,7 +11,7 @@ ghost use Rattle.spool.specs.Spools.{AddsRow, place_of, spool_of};
 use crate::Spool;
 use crate::masks::{all_but, is_done, marks};
 use crate::stored::Stored;
-use crate::tape::{ROW_SIZE, Tape};
+use crate::tape::{ROW_SIZE, Tape, mask_of};
 use carriers::carrier::Carrier;
 use letters::letter::Letter;
 use letters::parts::Parts;
@@ -55,12 +55,11 @@ impl<'a, B: Stored> Spool<'a, B> {
         ensures marked { marks_at self.now.tape.bytes.now seat result ≡ true }
         ensures place { place_of B.form B.blank self.now seat result ≡ place }
     {
-        // By number, as the tape cuts a row's mask out of its bytes; the answer is a number, too.
         let mut seen = 0;
-        for row in 0..self.rows {
-            if marks(self.tape.mask(row), seat) {
+        for (number, row) in self.tape.rows(self.rows).iter().enumerate() {
+            if marks(mask_of(row), seat) {
                 if seen == place {
-                    return row;
+                    return number;
                 }
                 seen += 1;
             }
@@ -101,9 +100,8 @@ impl<'a, B: Stored> Carrier for Spool<'a, B> {
             return 0;
         }
         let mut count: u32 = 0;
-        // By number, as in `find`.
-        for row in 0..self.rows {
-            if marks(self.tape.mask(row), seat) {
+        for row in self.tape.rows(self.rows) {
+            if marks(mask_of(row), seat) {
                 count = count.saturating_add(1);
             }
         }

@@ -1,5 +1,6 @@
 // The lent buffer of a spool, row by row. It has no invariant of its own, so that parts of it can be lent on.
 ghost use Rattle.std.specs.Prelude.{◌≡◌, ℕ, ◌+◌, ◌*◌, ◌<◌, ◌≤◌, length};
+ghost use Rattle.std.specs.Simd.{first_chunks};
 ghost use Rattle.letters.specs.Letters.{parts_of};
 ghost use Rattle.carriers.specs.Places.{OnlyAt};
 ghost use Rattle.records.specs.Records.{record_of};
@@ -21,7 +22,23 @@ pub(crate) struct Tape<'a> {
     pub(crate) bytes: &'a mut [u8],
 }
 
+// The mask of a row.
+pub(crate) fn mask_of(row: &[u8; ROW_SIZE]) -> u16
+    ensures { result ≡ mask_of row.now }
+{
+    u16::from_le_bytes([row[RECORD_SIZE], row[RECORD_SIZE + 1]])
+}
+
 impl<'a> Tape<'a> {
+    // The first rows.
+    pub(crate) fn rows(&self, count: usize) -> &[[u8; ROW_SIZE]]
+        requires { count * row_size ≤ length self.now.bytes.now }
+        ensures { result.now ≡ first_chunks row_size count self.now.bytes.now }
+    {
+        let (rows, _) = self.bytes.as_chunks();
+        &rows[..count]
+    }
+
     // A row's mask.
     pub(crate) fn mask(&self, row: usize) -> u16
         requires { row * row_size + row_size ≤ length self.now.bytes.now }
