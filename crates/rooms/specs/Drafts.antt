@@ -18,7 +18,7 @@ pub record DraftState : Type 0 where
 
 -- what a draft holds
 abbrev pub draft_state : Draft → DraftState
-draft_state d = record { number = d.number; quota = d.quota; names = d.names; count = d.count }
+draft_state d = record { number = d.terms.number; quota = d.terms.quota; names = d.terms.names; count = d.terms.count }
 
 -- a room may have this quota
 abbrev pub draft_check : ℕ → Result (Unit {0}) Reason

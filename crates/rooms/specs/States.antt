@@ -9,7 +9,7 @@ use Rattle.rooms.specs.declared.room.Room.{Room}
 
 -- what an open room holds
 abbrev pub state : Room → RoomState
-state r = record { number = r.number; names = r.names; count = r.count; quota = r.quota; seats = r.seats }
+state r = record { number = r.terms.number; names = r.terms.names; count = r.terms.count; quota = r.terms.quota; seats = r.seats }
 
 -- the three numbers of a docket
 abbrev pub slip : Docket → Slip

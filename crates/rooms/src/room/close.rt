@@ -32,7 +32,7 @@ impl Room {
     fn is_clear(&self) -> bool
         ensures { result ≡ all_clear (state self.now) }
     {
-        let seats = &self.seats[..self.count as usize];
+        let seats = &self.seats[..self.terms.count as usize];
         seats.iter().all(|seat| seat.docket == DocketState::Clear)
     }
 }

@@ -35,7 +35,7 @@ impl Room {
         ensures answer { told slip result ≡ collect_answer (state self.old) seat }
         ensures room { state self.new ≡ docket_room (state self.old) seat Collect (collect_answer (state self.old) seat) }
     {
-        if seat >= self.count {
+        if seat >= self.terms.count {
             return Err(Refusal::UnknownSeat);
         }
         let mut poster = self.seats[seat as usize];
@@ -48,11 +48,11 @@ impl Room {
 
     // What the docket of the newest letter that a seat posted says.
     pub(crate) fn newest(&self, seat: u8) -> Slip
-        requires { seat < self.now.count }
+        requires { seat < self.now.terms.count }
         ensures { result ≡ slip_of (state self.now) seat }
     {
         Slip {
-            room: self.number,
+            room: self.terms.number,
             seat,
             number: self.seats[seat as usize].clock.entry(seat),
         }
@@ -63,7 +63,7 @@ impl Room {
         ensures { result ≡ good_slip (state self.now) (slip docket.now) }
     {
         let slip = docket.slip();
-        if slip.seat >= self.count {
+        if slip.seat >= self.terms.count {
             return false;
         }
         let mut poster = self.seats[slip.seat as usize];
@@ -72,7 +72,7 @@ impl Room {
 
     // Tells a seat what happens to its docket.
     pub(crate) fn note_docket(&mut self, seat: u8, event: DocketEvent)
-        requires { seat < self.old.count }
+        requires { seat < self.old.terms.count }
         ensures { state self.new ≡ with_seat (state self.old) seat (docketed (seat_at (state self.old) seat) event) }
     {
         let mut poster = self.seats[seat as usize];

@@ -81,7 +81,7 @@ impl Room {
         if !self.suffice(logs, holds) {
             return Err(Refusal::TooShort);
         }
-        if seats != self.count {
+        if seats != self.terms.count {
             return Err(Refusal::WrongSeatCount);
         }
         Ok(())

@@ -12,4 +12,4 @@ pub returns : goal.returns
 returns c =
     let room = c.args.self.now in
     all_from_yields_List (λ (x : Seat). allows x.docket Post) _ _ _ c.all.ensures.ran (YieldsList-from_slice _ c.iter.ensures.rest) (λ x b q k. search (rules, tests))
-    ∙ clear_is (state room) (omega (arith, room.table, room.few))
+    ∙ clear_is (state room) (omega (arith, room.table, room.terms.few))
