@@ -1,3 +1,3 @@
 pub mod Dispatching
-pub mod Written
+pub mod Chunking
 pub mod Leading

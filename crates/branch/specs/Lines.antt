@@ -1,7 +1,8 @@
 -- The lines that the program prints, as bytes.
-use Rattle.std.specs.Prelude.{ℕ, List, ◌++◌, codes, decimal}
+use Rattle.std.specs.Prelude.{ℕ, List, ◌++◌, Ok, Err, Result, codes, decimal}
 use Rattle.std.specs.List.{flat_map}
 use Rattle.letters.specs.declared.letter.Letter.{Letter}
+use Rattle.letters.specs.declared.refusal.Refusal.{Refusal}
 use Rattle.letters.specs.Letters.{number_of}
 use Rattle.letters.specs.Refusals.{reason}
 use Rattle.seats.specs.declared.taken.Taken.{Taken}
@@ -16,33 +17,39 @@ use Rattle.branch.specs.declared.outcome.Outcome.TheVariants as outcomes
 abbrev pub name_text : ℕ → ℕ → List ℕ
 name_text p n = decimal p ++ (codes "." ++ decimal n)
 
--- the word of a call
+-- the name of a call
+abbrev pub call_name : Call → List ℕ
+call_name (calls.Post job) = codes "post"
+call_name calls.Collect = codes "collect"
+call_name (calls.Take place) = codes "take"
+call_name calls.Show = codes "show"
+
+-- its word in a line
 abbrev pub call_word : Call → List ℕ
-call_word (calls.Post job) = codes " post "
-call_word (calls.BadPost why) = codes " post "
-call_word calls.Collect = codes " collect "
-call_word (calls.Take place) = codes " take "
-call_word calls.Show = codes " show "
+call_word call = codes " " ++ (call_name call ++ codes " ")
 
 -- a step: its index, its call, and its seat as it is brought
 abbrev pub step_head : ℕ → Step → List ℕ
 step_head index step = decimal index ++ (call_word step.call ++ (decimal step.seat ++ codes " "))
 
 -- what it came to
-abbrev pub taken_says : Taken → List ℕ
-taken_says (takings.Stray id) = codes "stray " ++ (decimal id.poster ++ (codes "." ++ (decimal id.number ++ codes "\n")))
-taken_says (takings.Repeat id) = codes "repeat " ++ (decimal id.poster ++ (codes "." ++ (decimal id.number ++ codes "\n")))
-taken_says (takings.Held id) = codes "held " ++ (decimal id.poster ++ (codes "." ++ (decimal id.number ++ codes "\n")))
+abbrev pub taken_words : Taken → List ℕ
+taken_words (takings.Stray id) = codes "stray " ++ name_text id.poster id.number
+taken_words (takings.Repeat id) = codes "repeat " ++ name_text id.poster id.number
+taken_words (takings.Held id) = codes "held " ++ name_text id.poster id.number
 
-abbrev pub outcome_says : Outcome → List ℕ
-outcome_says (outcomes.Sent p n) = codes "sent " ++ (decimal p ++ (codes "." ++ (decimal n ++ codes "\n")))
-outcome_says (outcomes.Parked p n why) = codes "parked " ++ (decimal p ++ (codes "." ++ (decimal n ++ codes "\n")))
-outcome_says (outcomes.Taken taken) = taken_says taken
-outcome_says (outcomes.Shown id) = codes "shown " ++ (decimal id.poster ++ (codes "." ++ (decimal id.number ++ codes "\n")))
-outcome_says (outcomes.Refused why) = codes "refused " ++ (decimal (reason why).number ++ codes "\n")
+abbrev pub outcome_words : Outcome → List ℕ
+outcome_words (outcomes.Sent p n) = codes "sent " ++ name_text p n
+outcome_words (outcomes.Parked p n why) = codes "parked " ++ name_text p n
+outcome_words (outcomes.Taken taken) = taken_words taken
+outcome_words (outcomes.Shown id) = codes "shown " ++ name_text id.poster id.number
+
+abbrev pub outcome_says : Result Outcome Refusal → List ℕ
+outcome_says (Ok outcome) = outcome_words outcome ++ codes "\n"
+outcome_says (Err why) = codes "refused " ++ (decimal (reason why).number ++ codes "\n")
 
 -- a step's line
-abbrev pub step_line : ℕ → Step → Outcome → List ℕ
+abbrev pub step_line : ℕ → Step → Result Outcome Refusal → List ℕ
 step_line index step outcome = step_head index step ++ outcome_says outcome
 
 -- the line where no step can be read

@@ -1,11 +1,13 @@
 -- What the steps that were read so far have done.
-use Rattle.std.specs.Prelude.{◌≡◌, ℕ, ◌+◌, ◌-◌, ◌*◌, ◌^◌, ◌<◌, min, Bool, true, false, List, ◌++◌, length, take, drop, Some}
+use Rattle.std.specs.Prelude.{◌≡◌, ℕ, ◌+◌, ◌-◌, ◌*◌, ◌^◌, ◌<◌, min, List, ◌++◌, length, take, drop, Ok, Err, Result}
 use Rattle.letters.specs.declared.job.Job.{Job}
+use Rattle.letters.specs.declared.refusal.Refusal.{Refusal}
 use Rattle.sheets.specs.Sheets.{Kind}
 use Rattle.lives.specs.Traces.{Trace}
 use Rattle.lives.specs.Worked.{Leads, Moment, Worked}
 use Rattle.lives.specs.Keeps.{Keeps}
 use Rattle.branch.specs.declared.outcome.Outcome.{Outcome}
+use Rattle.branch.specs.declared.step.NoStep.{NoStep}
 use Rattle.branch.specs.declared.step.Step.{Step}
 use Rattle.branch.specs.Lines.{bad_line, step_line}
 use Rattle.branch.specs.Steps.{bad, step_brought, step_of}
@@ -22,8 +24,8 @@ step_bytes bs i = take 8 (drop (i * 8) bs)
 -- One step that was read from these bytes and made, with its line.
 pub record Stepped (bs : List ℕ) (index : ℕ) (before : List ℕ) (w : Moment Job) (lines : List ℕ) (w' : Moment Job) : Type 0 where
   pub step : Step
-  pub outcome : Outcome
-  pub read : step_brought (Some step) ≡ step_of bs
+  pub outcome : Result Outcome Refusal
+  pub read : step_brought (Ok step) ≡ step_of bs
   pub turn : Turn step.seat step.call w outcome w'
   pub line : lines ≡ before ++ step_line index step outcome
 
@@ -33,9 +35,9 @@ pub record Stopped (bs : List ℕ) (index : ℕ) (before : List ℕ) (w : Moment
   pub room : w' ≡ w
   pub line : lines ≡ before ++ bad_line index
 
-abbrev pub Tried : Bool → List ℕ → ℕ → List ℕ → Moment Job → List ℕ → Moment Job → Type 0
-Tried true bs index before w lines w' = Stepped bs index before w lines w'
-Tried false bs index before w lines w' = Stopped bs index before w lines w'
+abbrev pub Tried : Result (Unit {0}) NoStep → List ℕ → ℕ → List ℕ → Moment Job → List ℕ → Moment Job → Type 0
+Tried (Ok made) bs index before w lines w' = Stepped bs index before w lines w'
+Tried (Err stop) bs index before w lines w' = Stopped bs index before w lines w'
 
 -- So many steps of the bytes were made in turn, each where the one before it left the room, with these lines and these indices.
 pub data MadeSteps (bs : List ℕ) (n : ℕ) (start : List ℕ) (w : Moment Job) : ℕ → ℕ → List ℕ → Moment Job → Type 0 where
@@ -57,9 +59,9 @@ pub record SomeMade (bs : List ℕ) (n : ℕ) (start : List ℕ) (w : Moment Job
   pub made : MadeSteps bs n start w steps index before last
   pub stopped : Stopped (step_bytes bs steps) index before last lines w'
 
-abbrev pub Ran : Bool → List ℕ → ℕ → List ℕ → Moment Job → ℕ → List ℕ → Moment Job → Type 0
-Ran true bs n start w index lines w' = AllMade bs n start w index lines w'
-Ran false bs n start w index lines w' = SomeMade bs n start w index lines w'
+abbrev pub Ran : Result (Unit {0}) NoStep → List ℕ → ℕ → List ℕ → Moment Job → ℕ → List ℕ → Moment Job → Type 0
+Ran (Ok made) bs n start w index lines w' = AllMade bs n start w index lines w'
+Ran (Err stop) bs n start w index lines w' = SomeMade bs n start w index lines w'
 
 -- some calls, made in turn, led from one moment of the room to the other
 pub record Led (w w' : Moment Job) : Type 0 where

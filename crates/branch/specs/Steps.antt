@@ -1,10 +1,11 @@
 -- What a step of the program is, by its bytes.
-use Rattle.std.specs.Prelude.{ℕ, cond, List, length, drop, Some, None, Ok, Err, Option, Result, ◌==◌, slice_index}
+use Rattle.std.specs.Prelude.{ℕ, cond, List, length, drop, Ok, Err, Result, ◌==◌, slice_index}
 use Rattle.letters.specs.Jobs.{Said, adds, said, strike_answer}
 use Rattle.letters.specs.Numbers.{number_16, number_32}
 use Rattle.letters.specs.Refusals.{Reason, plain, reason}
 use Rattle.branch.specs.declared.step.Call.{Call}
 use Rattle.branch.specs.declared.step.Call.TheVariants as calls
+use Rattle.branch.specs.declared.step.NoStep.{NoStep}
 use Rattle.branch.specs.declared.step.Step.{Step}
 
 -- what a step brings: a call with its seat and its values, a post of a bad form with the number of its refusal, or nothing
@@ -18,15 +19,15 @@ pub data Brought : Type 0 where
 
 -- a step by what it brings
 abbrev pub call_brought : ℕ → Call → Brought
-call_brought seat (calls.Post job) = post seat (said job)
-call_brought seat (calls.BadPost why) = bad_form seat (reason why)
+call_brought seat (calls.Post (Ok job)) = post seat (said job)
+call_brought seat (calls.Post (Err why)) = bad_form seat (reason why)
 call_brought seat calls.Collect = collect seat
 call_brought seat (calls.Take place) = take seat place
 call_brought seat calls.Show = show seat
 
-abbrev pub step_brought : Option Step → Brought
-step_brought (Some step) = call_brought step.seat step.call
-step_brought None = bad
+abbrev pub step_brought : Result Step NoStep → Brought
+step_brought (Ok step) = call_brought step.seat step.call
+step_brought (Err stop) = bad
 
 -- the job of a post: byte 2 is 1 for an add, its code from byte 4 on, or 2 for a strike, with the poster in byte 3 and the
 -- number from byte 4 on; anything else is refused with 20

@@ -1,130 +1,64 @@
 // The lines of the program.
-ghost use Rattle.std.specs.Prelude.{◌≡◌, ◌++◌, IfOk, string_bytes, OnOk};
+ghost use Rattle.std.specs.Prelude.{◌≡◌, ◌++◌, OnOk, Some, string_bytes};
 ghost use Rattle.std.specs.List.{flat_map};
-ghost use Rattle.branch.specs.Lines.{after_space, bad_line, log_line, outcome_says, step_head, step_line, taken_says};
+ghost use Rattle.branch.specs.Lines.{after_space, bad_line, log_line, step_line};
 
 use crate::outcome::Outcome;
-use crate::step::{Call, Step};
+use crate::step::Step;
 use letters::job::Job;
 use letters::letter::Letter;
-use seats::taken::Taken;
-use std::alloc::{AllocError, Global};
+use letters::refusal::Refusal;
+use std::alloc::AllocError;
+use std::fmt;
+use std::fmt::{Display, Formatter};
 
-// Adds words to the end of a line.
-fn add_words(line: &mut Vec<u8>, words: String) -> Result<(), AllocError>
-    ensures { OnOk result (line.new.items ≡ line.old.items ++ string_bytes words) }
-{
-    line.extend_from_slice(words.as_bytes())
-}
-
-// The beginning of a step's line: its index, its call and its seat.
-fn head(heap: Global, index: u64, step: Step) -> Result<String, AllocError>
-    ensures { IfOk result (λ s. string_bytes s ≡ step_head index step) }
-{
-    let seat = step.seat;
-    match step.call {
-        Call::Post(_) => format!(in heap; "{index} post {seat} "),
-        Call::BadPost(_) => format!(in heap; "{index} post {seat} "),
-        Call::Collect => format!(in heap; "{index} collect {seat} "),
-        Call::Take(_) => format!(in heap; "{index} take {seat} "),
-        Call::Show => format!(in heap; "{index} show {seat} "),
-    }
-}
-
-// What a taken letter comes to.
-fn taken_words(heap: Global, taken: Taken) -> Result<String, AllocError>
-    ensures { IfOk result (λ s. string_bytes s ≡ taken_says taken) }
-{
-    match taken {
-        Taken::Stray(id) => {
-            let poster = id.poster();
-            let number = id.number();
-            format!(in heap; "stray {poster}.{number}\n")
-        }
-        Taken::Repeat(id) => {
-            let poster = id.poster();
-            let number = id.number();
-            format!(in heap; "repeat {poster}.{number}\n")
-        }
-        Taken::Held(id) => {
-            let poster = id.poster();
-            let number = id.number();
-            format!(in heap; "held {poster}.{number}\n")
-        }
-    }
-}
-
-// What a step comes to: the end of its line.
-fn tail(heap: Global, outcome: Outcome) -> Result<String, AllocError>
-    ensures { IfOk result (λ s. string_bytes s ≡ outcome_says outcome) }
-{
-    match outcome {
-        Outcome::Sent(poster, number) => format!(in heap; "sent {poster}.{number}\n"),
-        Outcome::Parked(poster, number, _) => format!(in heap; "parked {poster}.{number}\n"),
-        Outcome::Taken(taken) => taken_words(heap, taken),
-        Outcome::Shown(id) => {
-            let poster = id.poster();
-            let number = id.number();
-            format!(in heap; "shown {poster}.{number}\n")
-        }
-        Outcome::Refused(why) => {
-            let number = why.number();
-            format!(in heap; "refused {number}\n")
-        }
-    }
-}
-
-// Adds the line of a step.
+// Adds the line of a step, and what it came to or why it was refused.
 pub fn add_step(
-    heap: Global,
+    line: &mut String,
     index: u64,
     step: Step,
-    outcome: Outcome,
-    line: &mut Vec<u8>,
+    outcome: Result<Outcome, Refusal>,
 ) -> Result<(), AllocError>
-    ensures { OnOk result (line.new.items ≡ line.old.items ++ step_line index step outcome) }
+    ensures { OnOk result (string_bytes line.new ≡ string_bytes line.old ++ step_line index step outcome) }
 {
-    add_words(line, head(heap, index, step)?)?;
-    add_words(line, tail(heap, outcome)?)
+    let Step { call, seat } = step;
+    match outcome {
+        Ok(outcome) => writeln!(line, "{index} {call} {seat} {outcome}"),
+        Err(why) => {
+            let number = why.number();
+            writeln!(line, "{index} {call} {seat} refused {number}")
+        }
+    }
 }
 
 // Adds the line of what is no step.
-pub fn add_bad(heap: Global, index: u64, line: &mut Vec<u8>) -> Result<(), AllocError>
-    ensures { OnOk result (line.new.items ≡ line.old.items ++ bad_line index) }
+pub fn add_bad(line: &mut String, index: u64) -> Result<(), AllocError>
+    ensures { OnOk result (string_bytes line.new ≡ string_bytes line.old ++ bad_line index) }
 {
-    add_words(line, format!(in heap; "{index} bad\n")?)
+    writeln!(line, "{index} bad")
 }
 
-// Adds the names of the letters of a log.
-fn add_names(heap: Global, log: &[Letter<Job>], line: &mut Vec<u8>) -> Result<(), AllocError>
-    ensures { OnOk result (line.new.items ≡ line.old.items ++ flat_map after_space log.now) }
-{
-    for i in 0..log.len() {
-        let letter = log[i];
-        add_name(heap, &letter, line)?;
+// The names of the letters of a log, each after a space.
+#[derive(Clone, Copy)]
+struct Names<'a>(&'a [Letter<Job>]);
+
+impl Display for Names<'_> {
+    ghost output = { λ names. Some (flat_map after_space names.0.now) };
+
+    fn fmt<W: fmt::Write>(&self, f: &mut Formatter<W>) -> fmt::Result {
+        for letter in self.0 {
+            let poster = letter.poster();
+            let number = letter.number();
+            write!(f, " {poster}.{number}")?;
+        }
+        Ok(())
     }
-    Ok(())
-}
-
-// Adds the name of a letter, after a space.
-fn add_name(heap: Global, letter: &Letter<Job>, line: &mut Vec<u8>) -> Result<(), AllocError>
-    ensures { OnOk result (line.new.items ≡ line.old.items ++ after_space letter.now) }
-{
-    let poster = letter.poster();
-    let number = letter.number();
-    add_words(line, format!(in heap; " {poster}.{number}")?)
 }
 
 // Adds the line of a seat's log.
-pub fn add_log(
-    heap: Global,
-    seat: u8,
-    log: &[Letter<Job>],
-    line: &mut Vec<u8>,
-) -> Result<(), AllocError>
-    ensures { OnOk result (line.new.items ≡ line.old.items ++ log_line seat log.now) }
+pub fn add_log(line: &mut String, seat: u8, log: &[Letter<Job>]) -> Result<(), AllocError>
+    ensures { OnOk result (string_bytes line.new ≡ string_bytes line.old ++ log_line seat log.now) }
 {
-    add_words(line, format!(in heap; "log {seat}")?)?;
-    add_names(heap, log, line)?;
-    add_words(line, format!(in heap; "\n")?)
+    let names = Names(log);
+    writeln!(line, "log {seat}{names}")
 }

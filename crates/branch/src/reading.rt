@@ -2,45 +2,32 @@
 ghost use Rattle.std.specs.Prelude.{◌≡◌};
 ghost use Rattle.letters.specs.Jobs.{said};
 ghost use Rattle.letters.specs.Refusals.{told};
-ghost use Rattle.branch.specs.Steps.{call_brought, job_brought, post_of, step_brought, step_of};
+ghost use Rattle.branch.specs.Steps.{job_brought, step_brought, step_of};
 
-use crate::step::{Call, Step};
+use crate::step::{Call, NoStep, Step};
 use letters::job::Job;
 use letters::refusal::Refusal;
 
 // The step that eight bytes write; none where they are another number, or the call is another one.
-pub fn read_step(bytes: &[u8]) -> Option<Step>
-    ensures { step_brought result ≡ step_of bytes.now }
-{
-    match bytes {
-        [1, seat, kind, poster, a, b, c, d] => {
-            Some(read_post(*seat, *kind, *poster, [*a, *b, *c, *d]))
-        }
-        [2, seat, _, _, _, _, _, _] => Some(Step {
-            call: Call::Collect,
-            seat: *seat,
-        }),
-        [3, seat, low, high, _, _, _, _] => Some(Step {
-            call: Call::Take(u16::from_le_bytes([*low, *high])),
-            seat: *seat,
-        }),
-        [4, seat, _, _, _, _, _, _] => Some(Step {
-            call: Call::Show,
-            seat: *seat,
-        }),
-        _ => None,
-    }
-}
+impl TryFrom<&[u8]> for Step {
+    type Error = NoStep;
 
-// The step of a post.
-fn read_post(seat: u8, kind: u8, poster: u8, value: [u8; 4]) -> Step
-    ensures { call_brought result.seat result.call ≡ post_of seat (job_brought kind poster value) }
-{
-    let call = match read_job(kind, poster, value) {
-        Ok(job) => Call::Post(job),
-        Err(why) => Call::BadPost(why),
-    };
-    Step { call, seat }
+    ghost try_from_gives = { λ bytes step. step_brought step ≡ step_of bytes.now };
+
+    fn try_from(bytes: &[u8]) -> Result<Step, NoStep> {
+        let (call, seat) = match bytes {
+            [1, seat, kind, poster, a, b, c, d] => {
+                (Call::Post(read_job(*kind, *poster, [*a, *b, *c, *d])), seat)
+            }
+            [2, seat, _, _, _, _, _, _] => (Call::Collect, seat),
+            [3, seat, low, high, _, _, _, _] => {
+                (Call::Take(u16::from_le_bytes([*low, *high])), seat)
+            }
+            [4, seat, _, _, _, _, _, _] => (Call::Show, seat),
+            _ => return Err(NoStep),
+        };
+        Ok(Step { call, seat: *seat })
+    }
 }
 
 // The job of a post.

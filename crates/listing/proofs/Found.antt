@@ -1,22 +1,19 @@
 -- What a reader answered tells what it found.
-use Rattle.std.proofs.Common.{◌≡◌, ℕ, get_or, Some, None, Ok, Err, Option, Result, refl, ap, arith}
+use Rattle.std.proofs.Common.{◌≡◌, ℕ, Some, None, Ok, Err, Option, Result, slice_index, refl, sym, ap, ◌∙◌}
+use Rattle.letters.specs.Refusals.{Reason}
 use Rattle.records.specs.declared.fault.Fault.{Fault}
-use Rattle.records.specs.Readers.{Found, at_end, right, wrong, bad_record, fault_reason, next_answer, told_fault}
+use Rattle.records.specs.Readers.{Found, at_end, right, wrong, next_answer, told_fault}
 
-module _ (index : ℕ) where
-  pub found_letter : (f : Found) (read : ℕ) (r : Result (Option ℕ) Fault) → r ≡ Ok (Some read) → told_fault r ≡ next_answer index f → f ≡ right
-  found_letter at_end read r is e = let s : told_fault r ≡ Ok (Some read) = ap told_fault is in let z : ◌≡◌ {A = ℕ} 0 1 = cc in absurd (omega arith)
-  found_letter right read r is e = refl
-  found_letter (wrong byte) read r is e = let s : told_fault r ≡ Ok (Some read) = ap told_fault is in let z : ◌≡◌ {A = ℕ} 0 1 = cc in absurd (omega arith)
+-- what an answer tells
+abbrev pub told_found : Result (Option ℕ) Reason → Found
+told_found (Ok (Some index)) = right
+told_found (Ok None) = at_end
+told_found (Err why) = wrong (slice_index why.values 1)
 
-  pub found_none : (f : Found) (r : Result (Option ℕ) Fault) → r ≡ Ok None → told_fault r ≡ next_answer index f → f ≡ at_end
-  found_none at_end r is e = refl
-  found_none right r is e = let s : told_fault r ≡ Ok None = ap told_fault is in let z : ◌≡◌ {A = ℕ} 0 1 = cc in absurd (omega arith)
-  found_none (wrong byte) r is e = let s : told_fault r ≡ Ok None = ap told_fault is in let z : ◌≡◌ {A = ℕ} 0 1 = cc in absurd (omega arith)
+told_back : (index : ℕ) (f : Found) → told_found (next_answer index f) ≡ f
+told_back index at_end = refl
+told_back index right = refl
+told_back index (wrong byte) = refl
 
-  pub found_fault : (f : Found) (fault : Fault) → told_fault {X = Option ℕ} (Err fault) ≡ next_answer index f → f ≡ wrong fault.byte
-  found_fault at_end fault e = let z : ◌≡◌ {A = ℕ} 0 1 = cc in absurd (omega arith)
-  found_fault right fault e = let z : ◌≡◌ {A = ℕ} 0 1 = cc in absurd (omega arith)
-  found_fault (wrong byte) fault e =
-      let same : bad_record index byte ≡ fault_reason fault = cc in
-      ap (λ r. wrong (get_or r.values 1 0)) same
+pub found_told : (index : ℕ) (f : Found) (r told : Result (Option ℕ) Fault) → told_fault r ≡ next_answer index f → r ≡ told → f ≡ told_found (told_fault told)
+found_told index f r told e same = sym (ap (λ x. told_found (told_fault x)) (sym same) ∙ ap told_found e ∙ told_back index f)

@@ -5,12 +5,11 @@ use Rattle.letters.specs.declared.job.Job.{Job}
 use Rattle.letters.specs.declared.job.Job.TheVariants.{Add, Strike}
 use Rattle.letters.specs.declared.text.Text.{Text}
 use Rattle.letters.specs.Forms.{Form}
-use Rattle.letters.specs.Letters.{Parts, entry_at}
+use Rattle.letters.specs.declared.parts.Parts.{Parts}
+use Rattle.letters.specs.Letters.{entry_at}
 use Rattle.letters.specs.Texts.{text_bytes}
 use Rattle.records.specs.Readers.{Found, at_end, right, wrong}
 use Rattle.records.specs.Records.{parts_written, record_size}
-use Rattle.listing.specs.declared.step.Step.{Step}
-use Rattle.listing.specs.declared.step.Step.TheVariants.{End, Fault, Letter}
 
 -- a letter's name, poster.number
 abbrev pub name_text : ℕ → ℕ → List ℕ
@@ -53,9 +52,3 @@ abbrev pub step_line : {B : Type 0} → Form B → (B → List ℕ) → ℕ → 
 step_line form says index bs at_end = []
 step_line form says index bs right = letter_line says index (parts_written form (take record_size bs))
 step_line form says index bs (wrong byte) = bad_line index byte
-
--- how it goes on
-abbrev pub step_answer : Found → Step
-step_answer at_end = End
-step_answer right = Letter
-step_answer (wrong byte) = Fault

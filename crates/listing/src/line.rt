@@ -1,110 +1,109 @@
 // The lines of a listing.
-ghost use Rattle.std.specs.Prelude.{◌≡◌, ℕ, List, ◌++◌, IfOk, string_bytes, OnOk};
+ghost use Rattle.std.specs.Prelude.{◌≡◌, ℕ, List, ◌++◌, OnOk, Some, string_bytes};
+ghost use Rattle.std.specs.Fmt.{WritesOnOk};
 ghost use Rattle.letters.specs.Letters.{parts};
+ghost use Rattle.letters.specs.Texts.{text_bytes};
 ghost use Rattle.listing.specs.Lines.{bad_line, commas, count_line, job_says, letter_line, text_says};
 
+use crate::stepping::Page;
 use letters::body::Body;
 use letters::job::Job;
-use letters::stamp::Stamp;
 use letters::text::Text;
-use std::alloc::{AllocError, Global};
+use std::alloc::AllocError;
+use std::fmt::{Display, Formatter};
+use std::{fmt, str};
 
 // A body that a line can show.
 pub trait Say: Body {
     ghost says: { Self → List ℕ };
 
-    // Adds what the body says to the end of a line.
-    fn say(&self, heap: Global, line: &mut Vec<u8>) -> Result<(), AllocError>
-        ensures { OnOk result (line.new.items ≡ line.old.items ++ says self.now) };
+    // Writes what the body says.
+    fn say<W: fmt::Write>(&self, f: &mut Formatter<W>) -> fmt::Result
+        ensures { WritesOnOk W.write_str_gives f.old result (says self.now) f.new };
 }
 
 impl Say for Text {
     ghost says = { text_says };
 
-    fn say(&self, _heap: Global, line: &mut Vec<u8>) -> Result<(), AllocError> {
-        add(line, b"text ")?;
-        add(line, self.as_bytes())
+    fn say<W: fmt::Write>(&self, f: &mut Formatter<W>) -> fmt::Result {
+        let chars = chars(self);
+        write!(f, "text {chars}")
     }
+}
+
+// The characters of a text.
+fn chars(text: &Text) -> &str
+    ensures { result.now ≡ text_bytes text.now }
+{
+    str::from_utf8(text.as_bytes()).unwrap()
 }
 
 impl Say for Job {
     ghost says = { job_says };
 
-    fn say(&self, heap: Global, line: &mut Vec<u8>) -> Result<(), AllocError> {
-        let words = job_words(heap, self)?;
-        add_words(line, words)
-    }
-}
-
-fn job_words(heap: Global, job: &Job) -> Result<String, AllocError>
-    ensures { IfOk result (λ s. string_bytes s ≡ job_says job.now) }
-{
-    match job {
-        Job::Add(code) => format!(in heap; "add {code}"),
-        Job::Strike(id) => {
-            let poster = id.poster();
-            let number = id.number();
-            format!(in heap; "strike {poster}.{number}")
+    fn say<W: fmt::Write>(&self, f: &mut Formatter<W>) -> fmt::Result {
+        match self {
+            Job::Add(code) => write!(f, "add {code}"),
+            Job::Strike(id) => {
+                let poster = id.poster();
+                let number = id.number();
+                write!(f, "strike {poster}.{number}")
+            }
         }
     }
 }
 
-// Adds bytes to the end of a line.
-fn add(line: &mut Vec<u8>, bytes: &[u8]) -> Result<(), AllocError>
-    ensures { OnOk result (line.new.items ≡ line.old.items ++ bytes.now) }
-{
-    line.extend_from_slice(bytes)
-}
+// What a body says.
+#[derive(Clone, Copy)]
+struct Said<'a, B>(&'a B);
 
-// Adds words to the end of a line.
-fn add_words(line: &mut Vec<u8>, words: String) -> Result<(), AllocError>
-    ensures { OnOk result (line.new.items ≡ line.old.items ++ string_bytes words) }
-{
-    line.extend_from_slice(words.as_bytes())
-}
+impl<B: Say> Display for Said<'_, B> {
+    ghost output = { λ said. Some (B.says said.0.now) };
 
-// Adds a stamp's entries, joined by commas.
-fn add_stamp(heap: Global, stamp: &Stamp, line: &mut Vec<u8>) -> Result<(), AllocError>
-    ensures { OnOk result (line.new.items ≡ line.old.items ++ commas stamp.now.entries) }
-{
-    let first = stamp.entries[0];
-    add_words(line, format!(in heap; "{first}")?)?;
-    for seat in 1..16 {
-        let entry = stamp.entries[seat];
-        add_words(line, format!(in heap; ",{entry}")?)?;
+    fn fmt<W: fmt::Write>(&self, f: &mut Formatter<W>) -> fmt::Result {
+        self.0.say(f)
     }
-    Ok(())
+}
+
+// The entries of a stamp, joined by commas.
+#[derive(Clone, Copy)]
+struct Entries<'a>(&'a [u16]);
+
+impl Display for Entries<'_> {
+    ghost output = { λ entries. Some (commas entries.0.now) };
+
+    fn fmt<W: fmt::Write>(&self, f: &mut Formatter<W>) -> fmt::Result {
+        if let [first, others @ ..] = self.0 {
+            write!(f, "{first}")?;
+            for entry in others {
+                write!(f, ",{entry}")?;
+            }
+        }
+        Ok(())
+    }
 }
 
 // Adds the line of a letter.
-pub fn add_letter<B: Say>(
-    heap: Global,
-    index: u64,
-    stamp: &Stamp,
-    poster: u8,
-    body: &B,
-    line: &mut Vec<u8>,
-) -> Result<(), AllocError>
-    ensures { OnOk result (line.new.items ≡ line.old.items ++ letter_line B.says index (parts stamp.now poster body.now)) }
+pub fn add_letter<B: Say>(line: &mut String, index: u64, page: &Page<B>) -> Result<(), AllocError>
+    ensures { OnOk result (string_bytes line.new ≡ string_bytes line.old ++ letter_line B.says index (parts page.now.stamp page.now.poster page.now.body)) }
 {
-    let number = stamp.entry(poster);
-    add_words(line, format!(in heap; "{index} {poster}.{number} ")?)?;
-    add_stamp(heap, stamp, line)?;
-    add(line, b" ")?;
-    body.say(heap, line)?;
-    add(line, b"\n")
+    let poster = page.poster;
+    let number = page.stamp.entry(poster);
+    let entries = Entries(&page.stamp.entries);
+    let body = Said(&page.body);
+    writeln!(line, "{index} {poster}.{number} {entries} {body}")
 }
 
 // Adds the line of a fault.
-pub fn add_fault(heap: Global, index: u64, byte: u8, line: &mut Vec<u8>) -> Result<(), AllocError>
-    ensures { OnOk result (line.new.items ≡ line.old.items ++ bad_line index byte) }
+pub fn add_fault(line: &mut String, index: u64, byte: u8) -> Result<(), AllocError>
+    ensures { OnOk result (string_bytes line.new ≡ string_bytes line.old ++ bad_line index byte) }
 {
-    add_words(line, format!(in heap; "{index} bad {byte}\n")?)
+    writeln!(line, "{index} bad {byte}")
 }
 
 // Adds the last line.
-pub fn add_count(heap: Global, letters: u64, line: &mut Vec<u8>) -> Result<(), AllocError>
-    ensures { OnOk result (line.new.items ≡ line.old.items ++ count_line letters) }
+pub fn add_count(line: &mut String, letters: u64) -> Result<(), AllocError>
+    ensures { OnOk result (string_bytes line.new ≡ string_bytes line.old ++ count_line letters) }
 {
-    add_words(line, format!(in heap; "{letters} letters\n")?)
+    writeln!(line, "{letters} letters")
 }

@@ -1,73 +1,52 @@
 // Lists a file of letter records, or says where it is damaged.
 #![tactic(auto)]
 
-ghost use Rattle.std.specs.Prelude.{◌≤◌, length, IfOk};
-
 use crate::line::{Say, add_count};
-use crate::step::Step;
 use crate::stepping::{Page, add_next};
 use letters::body::Body;
 use letters::job::Job;
 use letters::stamp::Stamp;
 use letters::text::Text;
+use records::fault::Fault;
 use records::reader::Reader;
+use records::record::RECORD_SIZE;
+use std::alloc::AllocError;
 use std::io::Read;
 use std::process::ExitCode;
+use std::str::FromStr;
 use std::{env, io};
 
 mod line;
-mod step;
 mod stepping;
 
 // How many records are held at a time.
 const HELD: usize = 64;
 
 // How many bytes they have.
-const CHUNK: usize = 6144;
+const CHUNK: usize = HELD * RECORD_SIZE;
 
-// Reads until the buffer is full or the input ends, and answers how many bytes came.
-fn fill(input: &mut impl Read, buffer: &mut [u8]) -> io::Result<usize>
-    ensures { IfOk result (λ n. n ≤ length buffer.new) }
-{
-    let mut filled = 0;
-    for _ in 0..buffer.len() {
-        let came = input.read(&mut buffer[filled..])?;
-        if came == 0 {
-            return Ok(filled);
-        }
-        filled += came;
-    }
-    Ok(filled)
-}
-
-// Lists the records that are held; whether the listing goes on after them.
-fn list_held<B: Say>(
-    rt: &HostRuntime,
+// Adds the lines of the records that are held, up to a fault, which ends the listing.
+fn add_held<B: Say>(
     bytes: &[u8],
-    page: &mut Page<B>,
     letters: &mut u64,
-) -> io::Result<bool> {
-    let mut lines = Vec::new(rt.alloc());
+    page: &mut Page<B>,
+    lines: &mut String,
+) -> Result<Result<(), Fault>, AllocError> {
     let mut reader = Reader::new(bytes);
-    let mut goes_on = true;
     for _ in 0..HELD {
-        match add_next(rt.alloc(), &mut reader, *letters, page, &mut lines)? {
-            Step::Letter => *letters = letters.saturating_add(1),
-            Step::Fault => {
-                goes_on = false;
-                break;
-            }
-            Step::End => break,
+        match add_next(&mut reader, *letters, page, lines)? {
+            Ok(Some(_)) => *letters = letters.saturating_add(1),
+            Ok(None) => break,
+            Err(fault) => return Ok(Err(fault)),
         }
     }
-    rt.write_all(lines.as_slice())?;
-    Ok(goes_on)
+    Ok(Ok(()))
 }
 
 // Lists the standard input, which may be of any length. The body given is any of its kind.
 fn list<B: Say>(rt: &HostRuntime, body: B) -> io::Result<()> {
-    let mut input = rt.stdin();
-    let mut buffer = [0; CHUNK];
+    let mut held = Vec::with_capacity(rt.alloc(), CHUNK)?;
+    let mut lines = String::new(rt.alloc());
     let mut letters = 0;
     let mut page = Page {
         stamp: Stamp { entries: [0; 16] },
@@ -75,14 +54,18 @@ fn list<B: Say>(rt: &HostRuntime, body: B) -> io::Result<()> {
         body,
     };
     for _ in 0..u64::MAX {
-        let filled = fill(&mut input, &mut buffer)?;
-        if !list_held(rt, &buffer[0..filled], &mut page, &mut letters)? || filled < CHUNK {
+        held.clear();
+        lines.clear();
+        rt.stdin().take(CHUNK as u64).read_to_end(&mut held)?;
+        let listed = add_held(held.as_slice(), &mut letters, &mut page, &mut lines)?;
+        rt.print(&lines)?;
+        if listed.is_err() || held.len() < CHUNK {
             break;
         }
     }
-    let mut last = Vec::new(rt.alloc());
-    add_count(rt.alloc(), letters, &mut last)?;
-    rt.write_all(last.as_slice())
+    lines.clear();
+    add_count(&mut lines, letters)?;
+    rt.print(&lines)
 }
 
 // Which kind of body the one argument asks for.
@@ -92,11 +75,19 @@ enum Kind {
     Job,
 }
 
-fn kind_named(word: &str) -> Option<Kind> {
-    match word {
-        "text" => Some(Kind::Text),
-        "job" => Some(Kind::Job),
-        _ => None,
+// A word that names no kind of body.
+#[derive(Clone, Copy)]
+struct UnknownKind;
+
+impl FromStr for Kind {
+    type Err = UnknownKind;
+
+    fn from_str(word: &str) -> Result<Kind, UnknownKind> {
+        match word {
+            "text" => Ok(Kind::Text),
+            "job" => Ok(Kind::Job),
+            _ => Err(UnknownKind),
+        }
     }
 }
 
@@ -109,15 +100,15 @@ fn kind_asked(rt: &HostRuntime) -> Option<Kind> {
     if args.next().is_some() {
         return None;
     }
-    kind_named(word.as_str())
+    word.as_str().parse().ok()
 }
 
 // Lists what the arguments ask for, or says how the program is used.
 fn list_asked(rt: &HostRuntime) -> io::Result<()> {
-    match (kind_asked(rt), Text::new(b"")) {
-        (Some(Kind::Job), _) => list(rt, Job::Add(0)),
-        (Some(Kind::Text), Ok(blank)) => list(rt, blank),
-        _ => {
+    match kind_asked(rt) {
+        Some(Kind::Job) => list(rt, Job::Add(0)),
+        Some(Kind::Text) => list(rt, Text::new(b"").unwrap()),
+        None => {
             eprintln!(rt;
                 "usage: listing text|job < FILE (the kind of body that the letters have)"
             )?;

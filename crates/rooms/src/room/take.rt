@@ -11,6 +11,7 @@ use crate::room::Room;
 use carriers::carrier::Carrier;
 use letters::body::Body;
 use letters::letter::Letter;
+use letters::parts::Parts;
 use letters::refusal::Refusal;
 use seats::finding::find_named;
 use seats::parts::put;
@@ -26,10 +27,13 @@ fn draw_letter<B: Body, C: Carrier<Body = B>>(
     ensures answer { told (λ m. tt) result ≡ draw_answer (C.Carrier.meaning carrier.old) seat place }
     ensures leaves { Draws result (C.Carrier.meaning carrier.old) seat place (C.Carrier.meaning carrier.new) }
 {
-    let mut stamp = *spare.stamp();
-    let mut poster = spare.poster();
-    let mut body = *spare.body();
-    carrier.draw(seat, place, &mut stamp, &mut poster, &mut body)?;
+    let mut parts = spare.parts();
+    carrier.draw(seat, place, &mut parts)?;
+    let Parts {
+        stamp,
+        poster,
+        body,
+    } = parts;
     Ok(Letter::make(stamp, poster, body))
 }
 

@@ -1,0 +1,16 @@
+// A room at work.
+use letters::job::Job;
+use letters::letter::Letter;
+use rooms::room::Room;
+
+mod driving;
+mod running;
+
+// A room, the two letter tables that are brought to its calls, and the carrier on which its letters go.
+#[derive(Drop)]
+pub struct Desk<'t, C> {
+    pub room: Room,
+    pub logs: &'t mut [Letter<Job>],
+    pub holds: &'t mut [Letter<Job>],
+    pub carrier: C,
+}

@@ -1,0 +1,78 @@
+// Making the steps of the program on a room.
+ghost use Rattle.std.specs.Prelude.{◌≡◌, true};
+ghost use Rattle.seats.specs.declared.seat.DocketEvent.TheVariants.{Park};
+ghost use Rattle.seats.specs.Outcomes.{docket_room, good_slip, park_answer};
+ghost use Rattle.lives.specs.declared.moves.Move.TheVariants.{Collect, Post, Show, Take};
+ghost use Rattle.rooms.specs.States.{slip, state};
+ghost use Rattle.branch.specs.Desks.{standing};
+ghost use Rattle.branch.specs.Turns.{Dispatched, Follows, Turn, docket_calls, show_calls, take_calls};
+
+use crate::desk::Desk;
+use crate::outcome::Outcome;
+use crate::step::{Call, Step};
+use carriers::carrier::Carrier;
+use letters::job::Job;
+use letters::refusal::Refusal;
+use rooms::docket::{Docket, Returned};
+
+impl<C: Carrier<Body = Job>> Desk<'_, C> {
+    // Makes one step, and answers what it came to. A docket is sent at once, and parked where that is refused.
+    pub fn make_step(&mut self, step: Step) -> Result<Outcome, Refusal>
+        ensures { Turn step.seat step.call (standing C.Carrier.meaning self.old) result (standing C.Carrier.meaning self.new) }
+    {
+        match step.call {
+            Call::Post(job) => self.post(step.seat, job?),
+            Call::Collect => self.collect(step.seat),
+            Call::Take(place) => self.take(step.seat, place),
+            Call::Show => self.show(step.seat),
+        }
+    }
+
+    fn post(&mut self, seat: u8, job: Job) -> Result<Outcome, Refusal>
+        ensures { Follows (docket_calls (state self.old.room).number (Post seat job) result) (standing C.Carrier.meaning self.old) (standing C.Carrier.meaning self.new) }
+    {
+        let holds = &mut *self.holds;
+        let docket = self.room.post(self.logs, holds, seat, job)?;
+        Ok(self.dispatch(docket))
+    }
+
+    fn collect(&mut self, seat: u8) -> Result<Outcome, Refusal>
+        ensures { Follows (docket_calls (state self.old.room).number (Collect seat) result) (standing C.Carrier.meaning self.old) (standing C.Carrier.meaning self.new) }
+    {
+        let docket = self.room.collect(seat)?;
+        Ok(self.dispatch(docket))
+    }
+
+    // Sends a docket that is out at the room, or parks it.
+    fn dispatch(&mut self, docket: Docket) -> Outcome
+        requires { good_slip (state self.old.room) (slip docket) ≡ true }
+        ensures { Dispatched (slip docket) (standing C.Carrier.meaning self.old) result (standing C.Carrier.meaning self.new) }
+    {
+        let seat = docket.seat();
+        let number = docket.number();
+        let logs = &mut *self.logs;
+        let holds = &mut *self.holds;
+        match self.room.send(logs, holds, &mut self.carrier, docket) {
+            Ok(()) => Outcome::Sent(seat, number),
+            Err(Returned { docket, refusal }) => {
+                self.room.park(docket).unwrap();
+                Outcome::Parked(seat, number, refusal)
+            }
+        }
+    }
+
+    fn take(&mut self, seat: u8, place: u16) -> Result<Outcome, Refusal>
+        ensures { Follows (take_calls (Take seat place) result) (standing C.Carrier.meaning self.old) (standing C.Carrier.meaning self.new) }
+    {
+        let logs = &mut *self.logs;
+        let taken = self.room.take(logs, self.holds, &mut self.carrier, seat, u32::from(place))?;
+        Ok(Outcome::Taken(taken))
+    }
+
+    fn show(&mut self, seat: u8) -> Result<Outcome, Refusal>
+        ensures { Follows (show_calls (Show seat) result) (standing C.Carrier.meaning self.old) (standing C.Carrier.meaning self.new) }
+    {
+        let id = self.room.show(self.logs, self.holds, seat)?;
+        Ok(Outcome::Shown(id))
+    }
+}
