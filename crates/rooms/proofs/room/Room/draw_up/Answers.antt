@@ -30,8 +30,8 @@ returns-in_err-may_visit g c = record {
   keeps = always_keeps g.K.Sheet.kind g.met.K.Sheet.lawful;
 }
 
-pub returns-then-capacity-self : goal.returns-then-capacity-self
-returns-then-capacity-self g c = record {
+pub returns-then-PLACES-self : goal.returns-then-PLACES-self
+returns-then-PLACES-self g c = record {
   answer = search rules;
   leaves = search rules;
   untouched = search rules;
