@@ -22,18 +22,8 @@ returns g c =
       keeps = always_keeps kind g.met.K.Sheet.lawful;
     }
 
-pub returns-in_err-may_visit : goal.returns-in_err-may_visit
-returns-in_err-may_visit g c = record {
-  answer = search rules;
-  leaves = search rules;
-  untouched = search rules;
-  keeps = always_keeps g.K.Sheet.kind g.met.K.Sheet.lawful;
-}
+pub returns-in_err-may_visit-clause-keeps : goal.returns-in_err-may_visit-clause-keeps
+returns-in_err-may_visit-clause-keeps g c = always_keeps g.K.Sheet.kind g.met.K.Sheet.lawful
 
-pub returns-then-PLACES-self : goal.returns-then-PLACES-self
-returns-then-PLACES-self g c = record {
-  answer = search rules;
-  leaves = search rules;
-  untouched = search rules;
-  keeps = always_keeps g.K.Sheet.kind g.met.K.Sheet.lawful;
-}
+pub returns-then-PLACES-self-clause-keeps : goal.returns-then-PLACES-self-clause-keeps
+returns-then-PLACES-self-clause-keeps g c = always_keeps g.K.Sheet.kind g.met.K.Sheet.lawful
