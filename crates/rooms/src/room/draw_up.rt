@@ -29,7 +29,7 @@ impl Room {
         ensures keeps { AlwaysKeeps K.Sheet.kind }
     {
         let reader = self.visit(logs.len(), holds.len(), seat)?;
-        if K::capacity() < self.terms.places() as u32 {
+        if K::PLACES < self.terms.places() as u32 {
             return Err(Refusal::TooFewPlaces);
         }
         draw_up(sheet, self.log_part(logs, seat, &reader))

@@ -74,11 +74,15 @@ impl Sheet for Timeline {
 
     const PLACES: u32 = 256;
 
+    ghost PLACES = { 256 };
+
     ghost Meaning = { Shown };
 
     ghost meaning = { shown_by };
 
     ghost kind = { timeline_kind };
+
+    ghost sized = { refl };
 
     ghost lawful = { record {
       starts = refl;
@@ -87,10 +91,6 @@ impl Sheet for Timeline {
           let swap = placed_swap m.rows (row_of x) (row_of y) (beside_posters x y side) in
           λ i. record { count = m.count + 1 + 1; rows = swap i };
     } };
-
-    fn capacity() -> u32 {
-        Self::PLACES
-    }
 
     fn letters(&self) -> u32 {
         self.rows.len() as u32

@@ -29,5 +29,5 @@ returns g c =
 pub returns-in_err-reader-clause-keeps : goal.returns-in_err-reader-clause-keeps
 returns-in_err-reader-clause-keeps g c = always_keeps g.K.Sheet.kind g.met.K.Sheet.lawful
 
-pub returns-then-capacity-places-clause-keeps : goal.returns-then-capacity-places-clause-keeps
-returns-then-capacity-places-clause-keeps g c = always_keeps g.K.Sheet.kind g.met.K.Sheet.lawful
+pub returns-then-PLACES-places-clause-keeps : goal.returns-then-PLACES-places-clause-keeps
+returns-then-PLACES-places-clause-keeps g c = always_keeps g.K.Sheet.kind g.met.K.Sheet.lawful
