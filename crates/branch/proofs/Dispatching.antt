@@ -3,7 +3,8 @@ use Rattle.std.proofs.Common.{◌≡◌, ℕ, ◌≤◌, true, length, Ok, sym, 
 use Rattle.letters.specs.declared.job.Job.{Job}
 use Rattle.letters.specs.Refusals.{reason}
 use Rattle.seats.specs.declared.seat.DocketEvent.TheVariants.{Collect}
-use Rattle.seats.specs.Outcomes.{Slip, collect_answer, docket_room, good_slip, post_answer}
+use Rattle.seats.specs.declared.slip.Slip.{Slip}
+use Rattle.seats.specs.Outcomes.{collect_answer, docket_room, good_slip, post_answer}
 use Rattle.seats.specs.Rooms.{RoomState}
 use Rattle.rooms.specs.Calls.{post_room}
 use Rattle.lives.specs.declared.moves.Move.{Move}

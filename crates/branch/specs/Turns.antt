@@ -4,7 +4,8 @@ use Rattle.letters.specs.declared.job.Job.{Job}
 use Rattle.letters.specs.Names.{name_of}
 use Rattle.letters.specs.declared.refusal.Refusal.{Refusal}
 use Rattle.letters.specs.Refusals.{Reason, reason}
-use Rattle.seats.specs.Outcomes.{Slip, taken_as}
+use Rattle.seats.specs.declared.slip.Slip.{Slip}
+use Rattle.seats.specs.Outcomes.{taken_as}
 use Rattle.lives.specs.declared.moves.Move.{Move}
 use Rattle.lives.specs.declared.moves.Move.TheVariants.{Collect, Park, Post, Send, Show, Take}
 use Rattle.lives.specs.Traces.{Trace, docket, done, made, refused, showed, slip, taken}
@@ -17,9 +18,9 @@ use Rattle.branch.specs.declared.outcome.Outcome.TheVariants as outcomes
 -- The calls on the room, with their answers and the newest first, by which a step has its outcome; none where it cannot have it.
 -- A post or a collect answers a docket, which is sent, and parked where that is refused.
 abbrev pub docket_calls : ℕ → Move Job → Result Outcome Refusal → Option (Trace Job)
-docket_calls room move (Ok (outcomes.Sent p n)) = Some (made (Send room p n) done ∷ made move (docket (slip room p n)) ∷ [])
+docket_calls room move (Ok (outcomes.Sent p n)) = Some (made (Send (slip room p n)) done ∷ made move (docket (slip room p n)) ∷ [])
 docket_calls room move (Ok (outcomes.Parked p n why)) =
-    Some (made (Park room p n) done ∷ made (Send room p n) (refused (reason why)) ∷ made move (docket (slip room p n)) ∷ [])
+    Some (made (Park (slip room p n)) done ∷ made (Send (slip room p n)) (refused (reason why)) ∷ made move (docket (slip room p n)) ∷ [])
 docket_calls room move (Ok (outcomes.Taken t)) = None
 docket_calls room move (Ok (outcomes.Shown id)) = None
 docket_calls room move (Err why) = Some (made move (refused (reason why)) ∷ [])

@@ -1,7 +1,7 @@
 -- How many letters wait in each queue of lines, and what a step on one queue does to the others.
-use Rattle.std.proofs.Common.{◌≡◌, ℕ, zero, suc, ◌*◌, ◌<◌, ◌≤◌, true, false, ◌||◌, eqb, ltb, ◌≢◌, List, length, get_or, set, sym, ap, ◌∙◌, subst, ⊎_elim, arith}
+use Rattle.std.proofs.Common.{◌≡◌, ℕ, zero, suc, ◌*◌, ◌<◌, ◌≤◌, true, ◌||◌, eqb, ltb, ◌≢◌, List, length, get_or, set, sym, ap, ◌∙◌, subst, ⊎_elim, arith}
 use Rattle.std.proofs.lemmas.List.{get_or-set_same, get_or-set_other, set_past}
-use Rattle.std.proofs.lemmas.Bool.{cases_eq, cases_lt, le-ltb, ne_eqb, ltb-true, eqb-true, and_parts, and_left, and_right, or_cases, or_from}
+use Rattle.std.proofs.lemmas.Bool.{cases_eq, cases_lt, ltb-true, eqb-true, and_parts, or_cases}
 use Rattle.carriers.specs.Places.{OnlyAt, part_at}
 use Rattle.carriers.specs.Lines.{others_free, lines_meaning}
 use Rattle.carriers.proofs.Rows.{other_queue}
@@ -32,13 +32,6 @@ free_at counts size poster (suc n) k r h ne =
     (λ l. subst (λ i. get_or counts i 0 < size) (sym same) (ltb-true _ _ l))
     (or_cases (eqb n poster) (ltb (get_or counts n 0) size) parts.0))
     (λ other. free_at counts size poster n k parts.1 (omega arith) ne)
-    (cases_eq k n)
-
-pub free_not : (counts : List ℕ) (size poster n k : ℕ) → k < n → ¬ (k ≡ poster) → size ≤ get_or counts k 0 → others_free counts size poster n ≡ false
-free_not counts size poster zero k h ne full = absurd (omega arith)
-free_not counts size poster (suc n) k h ne full = ⊎_elim
-    (λ same. and_left _ _ (or_from _ _ (ne_eqb n poster (λ e. ne (same ∙ e))) (le-ltb _ _ (subst (λ i. size ≤ get_or counts i 0) same full))))
-    (λ other. and_right (eqb n poster || ltb (get_or counts n 0) size) _ (free_not counts size poster n k (omega arith) ne full))
     (cases_eq k n)
 
 -- a step on the queue of one seat, which writes only its places and sets its count

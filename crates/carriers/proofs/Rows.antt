@@ -1,9 +1,11 @@
 -- Queues side by side in one row of places.
-use Rattle.std.proofs.Common.{◌≡◌, ℕ, ◌+◌, ◌-◌, ◌*◌, ◌≤◌, List, length, take, drop, sym, ap, ◌∙◌, ⊎_elim, arith}
+use Rattle.std.proofs.Common.{◌≡◌, ℕ, ◌+◌, ◌-◌, ◌*◌, ◌<◌, ◌≤◌, List, [], ◌∷◌, ◌++◌, length, get_or, take, drop, sym, ap, ◌∙◌, ⊎_elim, arith}
 use Rattle.std.proofs.lemmas.Bool.{cases_order}
 use borrow.Rule.Slice.PartMut.{put_mid}
 use Rattle.std.proofs.lemmas.List.{take-take, drop-take, drop_at, take-append-le, drop-drop, length-take-le}
 use Rattle.std.proofs.lemmas.Slice.{take-put_mid_below, drop-put_mid}
+use Rattle.std.specs.List.{remove}
+use Rattle.std.proofs.lemmas.List.{get_or-take}
 use Rattle.carriers.specs.Places.{OnlyAt, part_at}
 use Rattle.carriers.specs.LineLaws.{queue_end}
 
@@ -25,6 +27,21 @@ module _ {X : Type 0} (start size : ℕ) (row : List X) (fits : start + size ≤
 
   pub queue_of_part : (n : ℕ) → n ≤ size → take n (take cut (drop start row)) ≡ part_at start n row
   queue_of_part n le = take-take n cut (drop start row) (omega arith)
+
+  module _ (part : List X) (long : length part ≡ cut) (n : ℕ) where
+    -- one place more in use
+    pub pushed : (x : X) → n < size → take (n + 1) part ≡ take n (take cut (drop start row)) ++ (x ∷ [])
+        → part_at start (n + 1) (put_mid start cut row part) ≡ part_at start n row ++ (x ∷ [])
+    pushed x lt is = queue_in_part part long (n + 1) (omega arith) ∙ is ∙ ap (λ l. l ++ (x ∷ [])) (queue_of_part n (omega arith))
+
+    -- a place taken out
+    pub taken_out : (place : ℕ) → n ≤ size → take (n - 1) part ≡ remove (take n (take cut (drop start row))) place
+        → part_at start (n - 1) (put_mid start cut row part) ≡ remove (part_at start n row) place
+    taken_out place le is = queue_in_part part long (n - 1) (omega arith) ∙ is ∙ ap (λ l. remove l place) (queue_of_part n le)
+
+  -- the place that is read
+  pub read_in_part : (n place : ℕ) (d : X) → place < n → n ≤ size → get_or (take cut (drop start row)) place d ≡ get_or (part_at start n row) place d
+  read_in_part n place d lt le = get_or-take cut (drop start row) place d (omega arith) ∙ sym (get_or-take n (drop start row) place d (omega arith))
 
 module _ {X : Type 0} where
   -- the queues before and behind the one that was written are as they were

@@ -33,13 +33,13 @@ free_all counts size poster (suc n) all = free_more counts size poster n (λ _. 
 
 module _ {B : Type 0} (l : Lines B) where
   pub length_waiting : (k : ℕ) → k < l.seats → length ((lines_of l).waiting k) ≡ slice_index l.counts k
-  length_waiting k h = length_queue l.size l.seats k (slice_index l.counts k) l.rack.places.now h (l.within k) l.whole
+  length_waiting k h = length_queue l.size l.seats k (slice_index l.counts k) l.places.now h (l.within k) l.whole
 
   pub lawful_lines : Lawful (lines_of l)
   lawful_lines = record {
     some_seats = l.some;
     few_seats = l.few;
-    no_waiting = λ k h. ap (λ n. take n (drop (k * l.size) l.rack.places.now)) (l.beyond k h);
+    no_waiting = λ k h. ap (λ n. take n (drop (k * l.size) l.places.now)) (l.beyond k h);
     no_fits = λ k h. and_left _ _ (le-ltb k l.seats h);
     empty_fits = λ none p h. and_from _ _ (lt-ltb p l.seats h)
         (free_all l.counts l.size p l.seats (λ k lt.

@@ -24,4 +24,4 @@ lines_meaning seats size counts places = record {
 }
 
 abbrev pub lines_of : {B : Type 0} → Lines B → Meaning (Letter B)
-lines_of l = lines_meaning l.seats l.size l.counts l.rack.places.now
+lines_of l = lines_meaning l.seats l.size l.counts l.places.now

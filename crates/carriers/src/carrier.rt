@@ -1,14 +1,14 @@
 // What a carrier is.
 ghost use Rattle.std.specs.Prelude.{◌≡◌};
 ghost use Rattle.letters.specs.declared.letter.Letter.{Letter};
-ghost use Rattle.letters.specs.Letters.{parts, parts_of};
+ghost use Rattle.letters.specs.Letters.{parts_of};
 ghost use Rattle.letters.specs.Refusals.{told};
 ghost use Rattle.carriers.specs.Meaning.{DrawLeaves, Lawful, Meaning, PutLeaves, draw_answer, put_answer, waits_at};
 
 use letters::body::Body;
 use letters::letter::Letter;
+use letters::parts::Parts;
 use letters::refusal::Refusal;
-use letters::stamp::Stamp;
 
 // What takes letters from seat to seat: a network that may deliver late, out of order or twice, and loses nothing.
 pub trait Carrier {
@@ -37,14 +37,7 @@ pub trait Carrier {
 
     // Takes out the letter that waits at a place and fills the lent parts with its own; 8 where the seat is none here,
     // 14 where the place is past those that wait.
-    fn draw(
-        &mut self,
-        seat: u8,
-        place: u32,
-        stamp: &mut Stamp,
-        poster: &mut u8,
-        body: &mut Self::Body,
-    ) -> Result<(), Refusal>
+    fn draw(&mut self, seat: u8, place: u32, parts: &mut Parts<Self::Body>) -> Result<(), Refusal>
         ensures answer { told (λ u. u) result ≡ draw_answer (meaning self.old) seat place }
-        ensures leaves { DrawLeaves parts_of result (meaning self.old) seat place (meaning self.new) (parts stamp.old poster.old body.old) (parts stamp.new poster.new body.new) };
+        ensures leaves { DrawLeaves parts_of result (meaning self.old) seat place (meaning self.new) parts.old parts.new };
 }

@@ -4,4 +4,3 @@
 pub mod carrier;
 pub mod lines;
 mod queue;
-mod rack;

@@ -33,12 +33,9 @@ impl<'a, B: Copy> Queue<'a, B> {
         ensures taken { result ≡ slice_index_or self.old.places.now place result }
     {
         let taken = self.places[place as usize];
-        let last = self.count - 1;
-        for i in place..last {
-            let next = self.places[i as usize + 1];
-            self.places[i as usize] = next;
-        }
-        self.count = last;
+        self.places
+            .copy_within(place as usize + 1..self.count as usize, place as usize);
+        self.count -= 1;
         taken
     }
 }

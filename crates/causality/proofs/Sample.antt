@@ -2,7 +2,8 @@
 use Rattle.std.proofs.Common.{◌≡◌, ℕ, zero, suc, ◌<◌, ◌≤◌, cond, ◌↔◌, List, [], ◌∷◌, length, get_or, replicate, sym, refl, ap, ◌∙◌, subst, inl, arith}
 use Rattle.std.proofs.lemmas.Bool.{ne_eqb}
 use Rattle.letters.specs.declared.letter.Letter.{Letter}
-use Rattle.letters.specs.Letters.{Parts, entry_at, number_of, parts_of}
+use Rattle.letters.specs.declared.parts.Parts.{Parts}
+use Rattle.letters.specs.Letters.{entry_at, number_of, parts_of}
 use Rattle.letters.specs.Order.{Ready}
 use Rattle.letters.specs.Same.{same_letter}
 use Rattle.causality.specs.declared.docket.DocketState.TheVariants.{Clear, Out, Parked}

@@ -2,7 +2,8 @@
 use Rattle.std.specs.Prelude.{◌≡◌, ℕ, ◌<◌, List, [], ◌∷◌, replicate}
 use Rattle.letters.specs.declared.letter.Letter.{Letter}
 use Rattle.letters.specs.declared.stamp.Stamp.{Stamp}
-use Rattle.letters.specs.Letters.{Parts, parts}
+use Rattle.letters.specs.declared.parts.Parts.{Parts}
+use Rattle.letters.specs.Letters.{parts}
 use Rattle.causality.specs.History.{History, LedTo}
 use Rattle.causality.specs.Worlds.{World}
 use Rattle.causality.specs.Runs.{Run, Deed, deeds, a_refusal, a_post, a_send, a_park, a_collect, a_repeat, a_hold, a_show}

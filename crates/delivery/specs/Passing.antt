@@ -2,7 +2,8 @@
 use Rattle.std.specs.Prelude.{◌≡◌, ℕ, not, Ok, Err, Result, ◌==◌, nat_lt}
 use Rattle.letters.specs.declared.letter.Letter.{Letter}
 use Rattle.letters.specs.declared.refusal.Refusal.{Refusal}
-use Rattle.letters.specs.Letters.{Parts, parts_of}
+use Rattle.letters.specs.declared.parts.Parts.{Parts}
+use Rattle.letters.specs.Letters.{parts_of}
 use Rattle.letters.specs.Refusals.{Reason, told, unless}
 use Rattle.carriers.specs.Lines.{lines_answer}
 use Rattle.carriers.specs.Meaning.{DrawLeaves, Meaning, PutOn, draw_answer}

@@ -1,7 +1,9 @@
 -- What it says that every check passed, and where checks look.
-use Rattle.std.specs.Prelude.{◌≡◌, ℕ, zero, suc, ◌+◌, ◌<◌, ◌≤◌, Bool, true, false, cond, List, [], ◌∷◌, length, drop, Some, None, Option, slice_index, refl}
-use Rattle.std.proofs.Common.{◌∙◌, arith}
-use Rattle.std.proofs.lemmas.List.{at_drop_more, at_drop_all}
+use Rattle.std.specs.Prelude.{◌≡◌, ℕ, zero, suc, ◌+◌, ◌<◌, ◌≤◌, Bool, true, false, not, cond, List, [], ◌∷◌, length, Some, None, Option, slice_index, refl}
+use Rattle.std.specs.List.{position, position_from}
+use Rattle.std.specs.Option.{option_map}
+use Rattle.std.proofs.Common.{ap, ◌∙◌, arith}
+use Rattle.std.proofs.lemmas.Iterator.Adapters.{position_from-zero}
 use Rattle.letters.specs.Checks.{check, first_failing}
 use Rattle.letters.specs.Forms.{Near, body_space}
 
@@ -20,17 +22,33 @@ pub near_cond : (test : Bool) (x y : Option ℕ) → Near x → Near y → Near 
 near_cond true x y h k = h
 near_cond false x y h k = k
 
+cond_check : (test : Bool) (place : ℕ) (x y : Option ℕ) → x ≡ y → cond (not test) (Some place) x ≡ check test place y
+cond_check true place x y e = e
+cond_check false place x y e = refl
+
+check_on : (test : Bool) (start place : ℕ) (x y : Option ℕ) → option_map (λ k. start + k) x ≡ y
+    → option_map (λ k. start + k) (check test place x) ≡ check test (start + place) y
+check_on true start place x y e = e
+check_on false start place x y e = refl
+
 module _ (test : ℕ → Bool) where
-  -- one element of a scan
-  pub fails_here : (bs : List ℕ) (k : ℕ) → k < length bs → test (slice_index bs k) ≡ false → first_failing test k (drop k bs) ≡ Some k
-  fails_here bs k h e = at_drop_more (first_failing test k) bs k 0 h ∙ rw e
+  position_failing : (place : ℕ) (bs : List ℕ) → position_from (λ b. not (test b)) place bs ≡ first_failing test place bs
+  position_failing place [] = refl
+  position_failing place (b ∷ bs) = cond_check (test b) place _ _ (position_failing (place + 1) bs)
 
-  pub passes_here : (bs : List ℕ) (k : ℕ) → k < length bs → test (slice_index bs k) ≡ true
-      → first_failing test k (drop k bs) ≡ first_failing test (k + 1) (drop (k + 1) bs)
-  passes_here bs k h e = at_drop_more (first_failing test k) bs k 0 h ∙ rw e
+  -- the first element that fails a test is the first that passes the opposite one
+  pub first_position : (bs : List ℕ) → position (λ b. not (test b)) bs ≡ first_failing test 0 bs
+  first_position bs = position_from-zero (λ b. not (test b)) bs ∙ position_failing 0 bs
 
-  pub none_left : (bs : List ℕ) (k : ℕ) → length bs ≤ k → first_failing test k (drop k bs) ≡ None
-  none_left bs k h = at_drop_all (first_failing test k) bs k h
+  failing_on : (start place : ℕ) (bs : List ℕ) → option_map (λ k. start + k) (first_failing test place bs) ≡ first_failing test (start + place) bs
+  failing_on start place [] = refl
+  failing_on start place (b ∷ bs) =
+      check_on (test b) start place _ _ (failing_on start (place + 1) bs ∙ ap (λ k. first_failing test k bs) (omega arith))
+
+  -- so too where the list begins at another place, which is added to what is found
+  pub failing_after : (start : ℕ) (bs : List ℕ) → option_map (λ k. start + k) (position (λ b. not (test b)) bs) ≡ first_failing test start bs
+  failing_after start bs =
+      ap (option_map (λ k. start + k)) (first_position bs) ∙ failing_on start 0 bs ∙ ap (λ k. first_failing test k bs) (omega arith)
 
   -- none fails just when each passes
   pub each_passes : (place : ℕ) (bs : List ℕ) → first_failing test place bs ≡ None → (k : ℕ) → k < length bs → test (slice_index bs k) ≡ true

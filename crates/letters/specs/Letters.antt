@@ -1,6 +1,7 @@
 -- What a letter is made of.
 use Rattle.std.specs.Prelude.{ℕ, ◌&&◌, Ok, Result, nat_lt, slice_index}
 use Rattle.letters.specs.declared.letter.Letter.{Letter}
+use Rattle.letters.specs.declared.parts.Parts.{Parts}
 use Rattle.letters.specs.declared.stamp.Stamp.{Stamp}
 use Rattle.letters.specs.Names.{Name, name}
 use Rattle.letters.specs.Refusals.{Reason, unless}
@@ -8,12 +9,6 @@ use Rattle.letters.specs.Refusals.{Reason, unless}
 -- a stamp's entry at a seat, and 0 past the sixteen
 abbrev pub entry_at : Stamp → ℕ → ℕ
 entry_at s p = slice_index s.entries p
-
--- what a letter holds, of any values
-pub record Parts (B : Type 0) : Type 0 where
-  pub stamp : Stamp
-  pub poster : ℕ
-  pub body : B
 
 -- a letter can be where its poster is a seat and its number there is not 0
 abbrev pub letter_check : Stamp → ℕ → Result (Unit {0}) Reason

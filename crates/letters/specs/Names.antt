@@ -1,5 +1,5 @@
 -- What letters are called.
-use Rattle.std.specs.Prelude.{ℕ, ◌&&◌, Ok, Result, nat_lt}
+use Rattle.std.specs.Prelude.{ℕ, ◌&&◌, List, ◌++◌, Ok, Result, nat_lt, codes, decimal}
 use Rattle.letters.specs.declared.letter_id.LetterId.{LetterId}
 use Rattle.letters.specs.Refusals.{Reason, unless}
 
@@ -13,6 +13,10 @@ name p n = record { poster = p; number = n }
 
 abbrev pub name_of : LetterId → Name
 name_of id = name id.poster id.number
+
+-- a name in print
+abbrev pub name_text : ℕ → ℕ → List ℕ
+name_text p n = decimal p ++ (codes "." ++ decimal n)
 
 -- a name is made of any seat below 16 and any number but 0
 abbrev pub name_answer : ℕ → ℕ → Result Name Reason

@@ -1,7 +1,7 @@
 -- A text's bytes tell which text it is, and are right.
-use Rattle.std.specs.Prelude.{◌≡◌, ℕ, ◌-◌, Bool, true, false, List, ◌++◌, length, drop, replicate, is_some, Some, None, Option, nat_le, refl}
+use Rattle.std.specs.Prelude.{◌≡◌, ℕ, ◌-◌, Bool, true, false, List, ◌++◌, length, replicate, is_some, Some, None, Option, nat_le, refl}
 use Rattle.std.proofs.Common.{ap, sym, ◌∙◌, arith}
-use Rattle.std.proofs.lemmas.List.{take-append-drop, length-take-le, drop-replicate}
+use Rattle.std.proofs.lemmas.List.{take-append-drop, length-take-le}
 use Rattle.std.proofs.lemmas.Bool.{le-leb, leb-true, true≢false}
 use Rattle.letters.specs.declared.text.Text.{Text}
 use Rattle.letters.specs.Characters.{longest_text, printable, text_wrong}
@@ -46,7 +46,3 @@ text_lawful = record {
   near = λ k bs h. near_check (nat_le (length bs) longest_text) longest_text _ (omega arith) (near_failing printable 0 bs (omega arith));
   short = λ k n e. leb-true n longest_text e;
 }
-
--- bytes laid over zeros
-pub laid : (bs : List ℕ) → bs ++ drop (length bs) (replicate longest_text 0) ≡ padded longest_text bs
-laid bs = ap (λ l. bs ++ l) (drop-replicate (length bs) longest_text 0)

@@ -1,12 +1,23 @@
 // What a letter can carry.
-ghost use Rattle.std.specs.Prelude.{◌≡◌, true, length, None};
+ghost use Rattle.std.specs.Prelude.{◌≡◌, ◌≤◌, true, length, None};
 ghost use Rattle.letters.specs.Forms.{Form, Lawful, body_space};
 ghost use Rattle.letters.specs.Numbers.{padded};
 
 // How many bytes a record has for its body.
 pub const BODY_SPACE: usize = 60;
 
+// Bytes with zeros after them, in the space that a record has for its body.
+pub(crate) fn padded(front: &[u8]) -> [u8; BODY_SPACE]
+    requires { length front.now ≤ body_space }
+    ensures { result ≡ padded body_space front.now }
+{
+    let mut bytes = [0; BODY_SPACE];
+    bytes[..front.len()].copy_from_slice(front);
+    bytes
+}
+
 // A type of bodies. Records are written and read once for all of them, by what each says here of its kinds and bytes.
+// A kind is the byte that a record has for it, and no enum: any crate may bring a type of bodies with kinds of its own.
 pub trait Body: Copy {
     ghost form: { Form Self };
 

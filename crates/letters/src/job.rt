@@ -6,7 +6,7 @@ ghost use Rattle.letters.specs.Numbers.{bytes_of_16, padded};
 ghost use Rattle.letters.specs.Refusals.{told};
 ghost use Rattle.letters.specs.JobsLemmas.{job_lawful};
 
-use crate::body::{BODY_SPACE, Body};
+use crate::body::{BODY_SPACE, Body, padded};
 use crate::letter_id::LetterId;
 use crate::refusal::Refusal;
 
@@ -33,25 +33,14 @@ fn add_bytes(code: u32) -> [u8; BODY_SPACE]
     ensures { result ≡ padded body_space (job_bytes (Job.Add code)) }
 {
     let [a, b, c, d] = code.to_le_bytes();
-    let mut bytes = [0; BODY_SPACE];
-    bytes[0] = 1;
-    bytes[1] = a;
-    bytes[2] = b;
-    bytes[3] = c;
-    bytes[4] = d;
-    bytes
+    padded(&[1, a, b, c, d])
 }
 
 fn strike_bytes(id: LetterId) -> [u8; BODY_SPACE]
     ensures { result ≡ padded body_space (job_bytes (Job.Strike id)) }
 {
     let [low, high] = id.number().to_le_bytes();
-    let mut bytes = [0; BODY_SPACE];
-    bytes[0] = 2;
-    bytes[1] = id.poster();
-    bytes[2] = low;
-    bytes[3] = high;
-    bytes
+    padded(&[2, id.poster(), low, high])
 }
 
 // The first wrong byte of a strike's four, of which the first is right.

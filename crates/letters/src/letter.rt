@@ -19,6 +19,7 @@ pub struct Letter<B> {
     ghost counted: { 0 < slice_index stamp.entries poster },
 }
 
+// By hand: a derived `Clone` is refused for a struct of any body that has ghost fields.
 impl<B: Copy> Clone for Letter<B> {
     ghost is_clone = { λ s r. r ≡ s };
 

@@ -5,6 +5,7 @@ pub mod body;
 pub mod job;
 pub mod letter;
 pub mod letter_id;
+pub mod parts;
 pub mod refusal;
 pub mod stamp;
 pub mod text;

@@ -1,9 +1,12 @@
 // Why a call says no.
-ghost use Rattle.std.specs.Prelude.{◌≡◌};
+ghost use Rattle.std.specs.Prelude.{◌≡◌, Some, decimal};
 ghost use Rattle.letters.specs.Refusals.{reason};
 
+use std::error::Error;
+use std::fmt;
+
 // A refusal. Its number stands in the definition `reason`, and is what a person is told.
-#[derive(Clone, Copy)]
+#[derive(Clone, Copy, Debug, PartialEq, Eq)]
 pub enum Refusal {
     // the quota is 0 or above 256
     BadQuota,
@@ -76,3 +79,15 @@ impl Refusal {
         }
     }
 }
+
+// Written as its number.
+impl fmt::Display for Refusal {
+    ghost output = { λ why. Some (decimal (reason why).number) };
+
+    fn fmt<W: fmt::Write>(&self, f: &mut fmt::Formatter<W>) -> fmt::Result {
+        let number = self.number();
+        write!(f, "{number}")
+    }
+}
+
+impl Error for Refusal {}

@@ -8,6 +8,7 @@ pub mod reading;
 pub const LONGEST_TEXT: usize = 60;
 
 // A line of text: up to sixty printable characters, with zeros after them.
+// The characters stand in an array with their number beside them, and in no `String`: letters are copied, in fixed memory.
 #[derive(Clone, Copy)]
 pub struct Text {
     chars: [u8; LONGEST_TEXT],

@@ -5,7 +5,8 @@ use Rattle.letters.specs.declared.job.Job.{Job}
 use Rattle.letters.specs.declared.job.Job.TheVariants.{Add, Strike}
 use Rattle.letters.specs.declared.text.Text.{Text}
 use Rattle.letters.specs.Forms.{Form}
-use Rattle.letters.specs.Letters.{Parts, entry_at}
+use Rattle.letters.specs.declared.parts.Parts.{Parts}
+use Rattle.letters.specs.Letters.{entry_at}
 use Rattle.letters.specs.Texts.{text_bytes}
 use Rattle.records.specs.Readers.{Found, at_end, right, wrong}
 use Rattle.records.specs.Records.{parts_written, record_size}

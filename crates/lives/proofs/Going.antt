@@ -15,12 +15,13 @@ use Rattle.causality.specs.Runs as runs
 use Rattle.causality.specs.Steps as steps
 use Rattle.seats.specs.declared.seat.DocketEvent.{DocketEvent}
 use Rattle.seats.specs.declared.seat.DocketEvent.TheVariants.{Send, Park, Collect}
-use Rattle.seats.specs.Outcomes.{PostLogs, PutOf, Slip, Take, Takes, Taking, stray, repeat, held, after, collect_answer, docket_room, park_answer, post_answer, posted_room, put_letter, send_letter, show_answer, show_holds, show_logs, show_outcome, show_room, take_check, taken_holds, taken_room, taking}
+use Rattle.seats.specs.declared.slip.Slip.{Slip}
+use Rattle.seats.specs.Outcomes.{PostLogs, PutOf, Take, Takes, Taking, stray, repeat, held, after, collect_answer, docket_room, park_answer, post_answer, posted_room, put_letter, send_letter, show_answer, show_holds, show_logs, show_outcome, show_room, take_check, taken_holds, taken_room, taking}
 use Rattle.seats.specs.Rooms.{RoomState, foot, seat_at, start, with_seat}
 use Rattle.seats.specs.Seats.{allows, docketed, moved}
 use Rattle.lives.specs.declared.moves.Move.{Move}
 use Rattle.lives.specs.declared.moves.Move.TheVariants as moves
-use Rattle.lives.specs.Traces.{Answer, Trace, done, docket, dockets, does, events, happened, made, posting, postings, refused, showed, shows, slip, takes, with_step}
+use Rattle.lives.specs.Traces.{Answer, Trace, done, docket, dockets, does, events, happened, made, posting, postings, refused, showed, shows, takes, with_step}
 use Rattle.lives.specs.Worked.{Leads, Moment, Step, Worked, further, moment, nowhere}
 use Rattle.lives.proofs.Clocks.{Fit, still_fit}
 use Rattle.lives.proofs.Lives.{Lives, arrives}
@@ -120,19 +121,19 @@ module _ {B : Type 0} (trace : Trace B) (w w' : Moment B) (lives : Lives trace w
       })
   posted_on s body (Err why) e is room logs holds carrier = refused_on (moves.Post s body) why refl refl is room logs holds carrier
 
-  parked_on : (room seat number : ℕ) (o : Result (Unit {0}) Reason) → o ≡ park_answer st (slip room seat number) → answer ≡ does o
-      → w'.room ≡ docket_room st seat Park o → w'.logs ≡ w.logs → w'.holds ≡ w.holds → w'.carrier ≡ w.carrier
-      → Lives (made (moves.Park room seat number) answer ∷ trace) w'
-  parked_on room seat number (Ok yes') e is =
-      let ok = good st (slip room seat number) e in
+  parked_on : (d : Slip) (o : Result (Unit {0}) Reason) → o ≡ park_answer st d → answer ≡ does o
+      → w'.room ≡ docket_room st d.seat Park o → w'.logs ≡ w.logs → w'.holds ≡ w.holds → w'.carrier ≡ w.carrier
+      → Lives (made (moves.Park d) answer ∷ trace) w'
+  parked_on d (Ok yes') e is =
+      let ok = good st d e in
       let out = was_out _ ok.out in
-      docket_on (moves.Park room seat number) done refl refl seat ok.inside Park w.carrier
+      docket_on (moves.Park d) done refl refl d.seat ok.inside Park w.carrier
       (steps.parks (record {
         seat = ok.inside;
-        moves = docket_moves w lives.fit seat ok.inside Park w.carrier Out Parked out (ap (λ (y : DocketState). moved y Park) out);
+        moves = docket_moves w lives.fit d.seat ok.inside Park w.carrier Out Parked out (ap (λ (y : DocketState). moved y Park) out);
         waiting = λ t. refl;
       })) is
-  parked_on room seat number (Err why) e is = refused_on (moves.Park room seat number) why refl refl is
+  parked_on d (Err why) e is = refused_on (moves.Park d) why refl refl is
 
   was_parked : (k : DocketState) → allows k Collect ≡ true → k ≡ Parked
   was_parked Parked e = refl
@@ -160,19 +161,19 @@ module _ {B : Type 0} (trace : Trace B) (w w' : Moment B) (lives : Lives trace w
   collected_on s (Err why) e is = refused_on (moves.Collect s) why refl refl is
 
   -- what a send put, or did not put, on the carrier
-  put_on : (room seat number : ℕ) (m : Letter B) → Ok m ≡ send_letter st w.logs (length w.holds) w.carrier.seats (slip room seat number)
-      → (o : Result (Unit {0}) Reason) → answer ≡ does o → w'.room ≡ docket_room st seat Send o → w'.logs ≡ w.logs → w'.holds ≡ w.holds
-      → PutOf w.carrier (Ok m) o w'.carrier → Lives (made (moves.Send room seat number) answer ∷ trace) w'
-  put_on room seat number m e (Ok yes') is at logs holds put =
-      docket_on (moves.Send room seat number) done refl refl seat (send_inside w lives.fit w'.carrier (slip room seat number) m e put) Send w'.carrier
-      (steps.sends (sends_step w lives.fit w'.carrier (slip room seat number) m e put)) is at logs holds refl
-  put_on room seat number m e (Err why) is at logs holds same = refused_on (moves.Send room seat number) why refl refl is at logs holds same
+  put_on : (d : Slip) (m : Letter B) → Ok m ≡ send_letter st w.logs (length w.holds) w.carrier.seats d
+      → (o : Result (Unit {0}) Reason) → answer ≡ does o → w'.room ≡ docket_room st d.seat Send o → w'.logs ≡ w.logs → w'.holds ≡ w.holds
+      → PutOf w.carrier (Ok m) o w'.carrier → Lives (made (moves.Send d) answer ∷ trace) w'
+  put_on d m e (Ok yes') is at logs holds put =
+      docket_on (moves.Send d) done refl refl d.seat (send_inside w lives.fit w'.carrier d m e put) Send w'.carrier
+      (steps.sends (sends_step w lives.fit w'.carrier d m e put)) is at logs holds refl
+  put_on d m e (Err why) is at logs holds same = refused_on (moves.Send d) why refl refl is at logs holds same
 
-  sent_on : (room seat number : ℕ) (o : Result (Letter B) Reason) → o ≡ send_letter st w.logs (length w.holds) w.carrier.seats (slip room seat number)
-      → answer ≡ does (put_letter w.carrier o) → w'.room ≡ docket_room st seat Send (put_letter w.carrier o) → w'.logs ≡ w.logs → w'.holds ≡ w.holds
-      → PutOf w.carrier o (put_letter w.carrier o) w'.carrier → Lives (made (moves.Send room seat number) answer ∷ trace) w'
-  sent_on room seat number (Ok m) e is at logs holds put = put_on room seat number m e (put_answer w.carrier m.poster) is at logs holds put
-  sent_on room seat number (Err why) e is at logs holds same = refused_on (moves.Send room seat number) why refl refl is at logs holds same
+  sent_on : (d : Slip) (o : Result (Letter B) Reason) → o ≡ send_letter st w.logs (length w.holds) w.carrier.seats d
+      → answer ≡ does (put_letter w.carrier o) → w'.room ≡ docket_room st d.seat Send (put_letter w.carrier o) → w'.logs ≡ w.logs → w'.holds ≡ w.holds
+      → PutOf w.carrier o (put_letter w.carrier o) w'.carrier → Lives (made (moves.Send d) answer ∷ trace) w'
+  sent_on d (Ok m) e is at logs holds put = put_on d m e (put_answer w.carrier m.poster) is at logs holds put
+  sent_on d (Err why) e is at logs holds same = refused_on (moves.Send d) why refl refl is at logs holds same
 
   shown_on : (s : ℕ) (o : Result (ℕ × Letter B) Reason) → o ≡ show_outcome st (length w.logs) w.holds s → answer ≡ shows (show_answer o)
       → w'.room ≡ show_room st o s → w'.logs ≡ show_logs st o s w.logs → w'.holds ≡ show_holds st o s w.holds → w'.carrier ≡ w.carrier
@@ -240,8 +241,8 @@ module _ {B : Type 0} (trace : Trace B) (w w' : Moment B) (lives : Lives trace w
 
   pub goes_on : (move : Move B) → Step move w answer w' → Lives (made move answer ∷ trace) w'
   goes_on (moves.Post s body) p = posted_on s body _ refl p.answers p.room p.logs p.holds p.carrier
-  goes_on (moves.Send room seat number) p = sent_on room seat number _ refl p.answers p.room p.logs p.holds p.carrier
-  goes_on (moves.Park room seat number) p = parked_on room seat number _ refl p.answers p.room p.logs p.holds p.carrier
+  goes_on (moves.Send d) p = sent_on d _ refl p.answers p.room p.logs p.holds p.carrier
+  goes_on (moves.Park d) p = parked_on d _ refl p.answers p.room p.logs p.holds p.carrier
   goes_on (moves.Collect s) p = collected_on s _ refl p.answers p.room p.logs p.holds p.carrier
   goes_on (moves.Take s place) p = took_on s place _ refl p.result p.answers p.leaves p.logs
   goes_on (moves.Show s) p = shown_on s _ refl p.answers p.room p.logs p.holds p.carrier

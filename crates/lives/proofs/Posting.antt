@@ -3,14 +3,16 @@ use Rattle.std.proofs.Common.{◌≡◌, ℕ, ◌+◌, ◌*◌, ◌<◌, ◌≤�
 use Rattle.std.proofs.lemmas.List.{get_or-set_other}
 use Rattle.std.proofs.lemmas.Bool.Decides.{nat_tests}
 use Rattle.letters.specs.declared.letter.Letter.{Letter}
-use Rattle.letters.specs.Letters.{Parts, entry_at, number_of}
+use Rattle.letters.specs.declared.parts.Parts.{Parts}
+use Rattle.letters.specs.Letters.{entry_at, number_of}
 use Rattle.causality.specs.declared.docket.DocketState.{DocketState}
 use Rattle.causality.specs.declared.docket.DocketState.TheVariants.{Clear, Out, Parked}
 use Rattle.causality.specs.Worlds.{Box}
 use Rattle.causality.specs.Steps.{Posts}
 use Rattle.seats.specs.declared.seat.Seat.{Seat}
 use Rattle.seats.specs.declared.seat.DocketEvent.TheVariants.{Post}
-use Rattle.seats.specs.Outcomes.{Posted, Slip, post_answer, posted_room, posted_seat, slip_of}
+use Rattle.seats.specs.declared.slip.Slip.{Slip}
+use Rattle.seats.specs.Outcomes.{Posted, post_answer, posted_room, posted_seat, slip_of}
 use Rattle.seats.specs.Rooms.{RoomState, log_of, seat_at, start, with_seat}
 use Rattle.seats.specs.Seats.{allows, clock_at, docketed, log_length, moved}
 use Rattle.lives.specs.Worked.{Moment, moment}

@@ -12,7 +12,8 @@ use Rattle.causality.specs.declared.docket.DocketState.TheVariants.{Clear, Out, 
 use Rattle.causality.specs.Worlds.{Box}
 use Rattle.causality.specs.Steps.{Sends}
 use Rattle.seats.specs.declared.seat.DocketEvent.TheVariants.{Send}
-use Rattle.seats.specs.Outcomes.{Slip, carrier_check, first, follows, is_called, or_missing, park_answer, send_letter}
+use Rattle.seats.specs.declared.slip.Slip.{Slip}
+use Rattle.seats.specs.Outcomes.{carrier_check, first, follows, is_called, or_missing, park_answer, send_letter}
 use Rattle.seats.specs.Rooms.{RoomState, log_of, seat_at}
 use Rattle.seats.specs.Seats.{allows, clock_at, docketed, moved}
 use Rattle.lives.specs.Worked.{Moment}

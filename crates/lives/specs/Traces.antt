@@ -1,9 +1,11 @@
 -- What was asked of a room and what it answered, and what happened by that: no word of stamps.
 use Rattle.std.specs.Prelude.{ℕ, List, [], ◌∷◌, Ok, Err, Result}
+use Rattle.letters.specs.declared.refusal.Refusal.{Refusal}
 use Rattle.letters.specs.Names.{Name, name, name_of}
 use Rattle.letters.specs.Refusals.{Reason, reason}
 use Rattle.causality.specs.History.{History, posted, shown}
-use Rattle.seats.specs.Outcomes.{Slip, Taking, taken_as}
+use Rattle.seats.specs.declared.slip.Slip.{Slip}
+use Rattle.seats.specs.Outcomes.{Taking, taken_as}
 use Rattle.lives.specs.declared.moves.Move.{Move}
 use Rattle.lives.specs.declared.moves.Move.TheVariants as moves
 use Rattle.lives.specs.declared.reply.Reply.{Reply}
@@ -43,12 +45,12 @@ shows (Ok i) = showed i
 shows (Err why) = refused why
 
 -- an answer that a step gave
-abbrev pub answer_of : Reply → Answer
-answer_of (replies.Docket room seat number) = docket (slip room seat number)
-answer_of replies.Done = done
-answer_of (replies.Taken t) = taken (taken_as t).0 (taken_as t).1
-answer_of (replies.Shown id) = showed (name_of id)
-answer_of (replies.Refused why) = refused (reason why)
+abbrev pub answer_of : Result Reply Refusal → Answer
+answer_of (Ok (replies.Docket d)) = docket d
+answer_of (Ok replies.Done) = done
+answer_of (Ok (replies.Taken t)) = taken (taken_as t).0 (taken_as t).1
+answer_of (Ok (replies.Shown id)) = showed (name_of id)
+answer_of (Err why) = refused (reason why)
 
 -- a step that was made, with its answer
 pub record Made (B : Type 0) : Type 0 where
@@ -96,8 +98,8 @@ module _ {B : Type 0} where
   -- the events after one step more
   abbrev pub happened : Move B → Answer → History Name → History Name
   happened (moves.Post s body) answer past = by_post s answer past
-  happened (moves.Send room seat number) answer past = past
-  happened (moves.Park room seat number) answer past = past
+  happened (moves.Send d) answer past = past
+  happened (moves.Park d) answer past = past
   happened (moves.Collect s) answer past = past
   happened (moves.Take s place) answer past = past
   happened (moves.Show s) answer past = by_show s answer past
@@ -118,8 +120,8 @@ module _ {B : Type 0} where
   -- the posted letters after one step more
   abbrev pub with_step : Move B → Answer → List (Posting B) → List (Posting B)
   with_step (moves.Post s body) answer past = with_post s body answer past
-  with_step (moves.Send room seat number) answer past = past
-  with_step (moves.Park room seat number) answer past = past
+  with_step (moves.Send d) answer past = past
+  with_step (moves.Park d) answer past = past
   with_step (moves.Collect s) answer past = past
   with_step (moves.Take s place) answer past = past
   with_step (moves.Show s) answer past = past

@@ -5,12 +5,13 @@ use Rattle.letters.specs.Names.{Name}
 use Rattle.letters.specs.Refusals.{Reason}
 use Rattle.carriers.specs.Meaning.{Empty, Lawful, Meaning}
 use Rattle.seats.specs.declared.seat.DocketEvent.TheVariants.{Send, Park, Collect}
-use Rattle.seats.specs.Outcomes.{PostLogs, PutOf, Slip, Take, Taking, after, collect_answer, docket_room, park_answer, post_answer, posted_room, send_answer, send_letter, show_answer, show_holds, show_logs, show_outcome, show_room, take_check}
+use Rattle.seats.specs.declared.slip.Slip.{Slip}
+use Rattle.seats.specs.Outcomes.{PostLogs, PutOf, Take, Taking, after, collect_answer, docket_room, park_answer, post_answer, posted_room, send_answer, send_letter, show_answer, show_holds, show_logs, show_outcome, show_room, take_check}
 use Rattle.seats.specs.Rooms.{RoomState, start}
 use Rattle.seats.specs.Seats.{fresh}
 use Rattle.lives.specs.declared.moves.Move.{Move}
 use Rattle.lives.specs.declared.moves.Move.TheVariants as moves
-use Rattle.lives.specs.Traces.{Answer, Trace, dockets, does, made, shows, slip, takes}
+use Rattle.lives.specs.Traces.{Answer, Trace, dockets, does, made, shows, takes}
 
 -- a room at one moment: what it holds, the two letter tables that are brought to it, and what its carrier means
 pub record Moment (B : Type 0) : Type 0 where
@@ -105,8 +106,8 @@ module _ {B : Type 0} where
   -- one step, accepted or refused
   abbrev pub Step : Move B → Moment B → Answer → Moment B → Type 0
   Step (moves.Post s body) w answer w' = PostStep s body w answer w'
-  Step (moves.Send room seat number) w answer w' = SendStep (slip room seat number) w answer w'
-  Step (moves.Park room seat number) w answer w' = ParkStep (slip room seat number) w answer w'
+  Step (moves.Send d) w answer w' = SendStep d w answer w'
+  Step (moves.Park d) w answer w' = ParkStep d w answer w'
   Step (moves.Collect s) w answer w' = CollectStep s w answer w'
   Step (moves.Take s place) w answer w' = TakeStep s place w answer w'
   Step (moves.Show s) w answer w' = ShowStep s w answer w'

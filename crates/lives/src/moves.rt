@@ -1,11 +1,12 @@
 // What can be asked of a room.
+use seats::slip::Slip;
 
-// A step with what it brings. A docket is brought by its numbers: room, seat, letter.
+// A step with what it brings. A docket is brought by its numbers.
 #[derive(Clone, Copy)]
 pub enum Move<B> {
     Post(u8, B),
-    Send(u32, u8, u16),
-    Park(u32, u8, u16),
+    Send(Slip),
+    Park(Slip),
     Collect(u8),
     Take(u8, u32),
     Show(u8),

@@ -1,14 +1,13 @@
 // What a room replies.
 use letters::letter_id::LetterId;
-use letters::refusal::Refusal;
+use seats::slip::Slip;
 use seats::taken::Taken;
 
-// The answer of a step. A docket is told by its numbers: room, seat, letter.
+// The answer of a step that was made; one that was not has a refusal in its place. A docket is told by its numbers.
 #[derive(Clone, Copy)]
 pub enum Reply {
-    Docket(u32, u8, u16),
+    Docket(Slip),
     Done,
     Taken(Taken),
     Shown(LetterId),
-    Refused(Refusal),
 }

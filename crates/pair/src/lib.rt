@@ -1,21 +1,22 @@
 // Pair: two carriers as one. A letter goes to both, and a seat's list is the first's followed by the second's.
 #![tactic(auto)]
 
-ghost use Rattle.std.specs.Prelude.{◌≡◌, Ok, ◌==◌};
+ghost use Rattle.std.specs.Prelude.{◌≡◌, Ok};
 ghost use Rattle.letters.specs.Refusals.{told};
 ghost use Rattle.pair.specs.PairLaws.{lawful_both};
 ghost use Rattle.pair.specs.Pairs.{both, pair_answer};
 
 use carriers::carrier::Carrier;
 use letters::letter::Letter;
+use letters::parts::Parts;
 use letters::refusal::Refusal;
-use letters::stamp::Stamp;
 
-// Two carriers for one kind of body, such as cable and mobile data.
+// Two carriers for one kind of body and equally many seats, such as cable and mobile data.
 #[derive(Drop)]
 pub struct Pair<C: Carrier, D: Carrier<Body = C::Body>> {
     first: C,
     second: D,
+    ghost level: { (C.Carrier.meaning first).seats ≡ (D.Carrier.meaning second).seats },
 }
 
 impl<C: Carrier, D: Carrier<Body = C::Body>> Pair<C, D> {
@@ -37,14 +38,6 @@ impl<C: Carrier, D: Carrier<Body = C::Body>> Pair<C, D> {
     {
         Pair { first, second }
     }
-
-    // Whether both have equally many seats, as all have that `new` makes.
-    fn is_level(&self) -> bool
-        ensures { result ≡ ((C.Carrier.meaning self.now.first).seats == (D.Carrier.meaning self.now.second).seats) }
-    {
-        let seats = self.first.seats();
-        seats == self.second.seats()
-    }
 }
 
 impl<C: Carrier, D: Carrier<Body = C::Body>> Carrier for Pair<C, D> {
@@ -52,7 +45,7 @@ impl<C: Carrier, D: Carrier<Body = C::Body>> Carrier for Pair<C, D> {
 
     ghost meaning = { λ p. both (C.Carrier.meaning p.first) (D.Carrier.meaning p.second) };
 
-    ghost lawful = { λ p. lawful_both (C.Carrier.meaning p.first) (D.Carrier.meaning p.second) (C.Carrier.lawful p.first) (D.Carrier.lawful p.second) };
+    ghost lawful = { λ p. lawful_both (C.Carrier.meaning p.first) (D.Carrier.meaning p.second) p.level (C.Carrier.lawful p.first) (D.Carrier.lawful p.second) };
 
     fn seats(&self) -> u8 {
         self.first.seats()
@@ -60,23 +53,14 @@ impl<C: Carrier, D: Carrier<Body = C::Body>> Carrier for Pair<C, D> {
 
     fn waits(&self, seat: u8) -> u32 {
         let ahead = self.first.waits(seat);
-        if !self.is_level() {
-            return ahead;
-        }
         ahead.saturating_add(self.second.waits(seat))
     }
 
     fn fits(&self, poster: u8) -> bool {
-        if !self.is_level() {
-            return self.first.fits(poster);
-        }
         self.first.fits(poster) & self.second.fits(poster)
     }
 
     fn put(&mut self, letter: &Letter<C::Body>) -> Result<(), Refusal> {
-        if !self.is_level() {
-            return self.first.put(letter);
-        }
         let poster = letter.poster();
         if poster >= self.first.seats() {
             return Err(Refusal::UnknownSeat);
@@ -88,22 +72,12 @@ impl<C: Carrier, D: Carrier<Body = C::Body>> Carrier for Pair<C, D> {
         self.second.put(letter)
     }
 
-    fn draw(
-        &mut self,
-        seat: u8,
-        place: u32,
-        stamp: &mut Stamp,
-        poster: &mut u8,
-        body: &mut C::Body,
-    ) -> Result<(), Refusal> {
-        if !self.is_level() {
-            return self.first.draw(seat, place, stamp, poster, body);
-        }
+    fn draw(&mut self, seat: u8, place: u32, parts: &mut Parts<C::Body>) -> Result<(), Refusal> {
         let ahead = self.first.waits(seat);
         // A place of 2^32 - 1 is below no answer of `waits`, so the first refuses it for both.
         if place < ahead || place == u32::MAX {
-            return self.first.draw(seat, place, stamp, poster, body);
+            return self.first.draw(seat, place, parts);
         }
-        self.second.draw(seat, place - ahead, stamp, poster, body)
+        self.second.draw(seat, place - ahead, parts)
     }
 }

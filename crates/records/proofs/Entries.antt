@@ -1,7 +1,7 @@
 -- A stamp's bytes, one entry after another.
-use Rattle.std.proofs.Common.{◌≡◌, ℕ, zero, suc, ◌+◌, ◌*◌, ◌/◌, ◌%◌, ◌<◌, ◌≤◌, List, [], ◌∷◌, ◌++◌, length, get_or, take, set, sym, refl, ap, ◌∙◌, append_assoc, arith}
+use Rattle.std.proofs.Common.{◌≡◌, ℕ, zero, suc, ◌+◌, ◌*◌, ◌/◌, ◌%◌, ◌<◌, ◌≤◌, List, [], ◌∷◌, ◌++◌, length, get_or, take, sym, refl, ap, ◌∙◌, append_assoc, arith}
 use Rattle.std.specs.List.{flat_map}
-use Rattle.std.proofs.lemmas.List.{flat_map_more, get_or-take, length-take-le, take_more, take_more_set, length-set}
+use Rattle.std.proofs.lemmas.List.{flat_map_more, get_or-take, length-take-le, take_more, take_all}
 use Rattle.letters.specs.Numbers.{bytes_of_16, number_16}
 use Rattle.letters.specs.NumbersLemmas.{bytes_of_16_back, made_up_16}
 use Rattle.records.specs.Records.{paired}
@@ -27,29 +27,40 @@ pub written_more : (entries : List ℕ) (k : ℕ) → k < length entries
 written_more entries k h =
     ap written (take_more entries k 0 h) ∙ sym (flat_map_more bytes_of_16 [] (take k entries) (get_or entries k 0))
 
--- two bytes written after the first n
-pub take_two_set : (bs : List ℕ) (n low high : ℕ) → n + 2 ≤ length bs
-    → take (n + 1 + 1) (set (set bs n low) (n + 1) high) ≡ take n bs ++ (low ∷ high ∷ [])
-take_two_set bs n low high h =
-    take_more_set (set bs n low) (n + 1) high (simp length-set (omega arith))
-    ∙ ap (λ front. front ++ (high ∷ [])) (take_more_set bs n low (omega arith))
-    ∙ append_assoc (take n bs) (low ∷ []) (high ∷ [])
+-- entries that are the numbers of the pairs of bytes at the front
+module _ (bs entries : List ℕ) (long : length entries ≡ 16) (room : 32 ≤ length bs) (small : (i : ℕ) → get_or bs i 0 < 256)
+    (each : (k : ℕ) → k < 16 → get_or entries k 0 ≡ number_16 (2 * k) bs) where
+  written_front : (k : ℕ) → k ≤ 16 → written (take k entries) ≡ take (2 * k) bs
+  written_front zero h = refl
+  written_front (suc k) h =
+      let n : ℕ = 2 * k in
+      let next : suc k ≡ k + 1 = omega arith in
+      let back : bytes_of_16 (get_or entries k 0) ≡ get_or bs n 0 ∷ get_or bs (n + 1) 0 ∷ [] =
+      ap bytes_of_16 (each k (omega arith)) ∙ bytes_of_16_back (get_or bs n 0) (get_or bs (n + 1) 0) (small n) in
+      let place : 2 * suc k ≡ n + 1 + 1 = omega arith in
+      let two : take (n + 1 + 1) bs ≡ (take n bs ++ (get_or bs n 0 ∷ [])) ++ (get_or bs (n + 1) 0 ∷ []) =
+      take_more bs (n + 1) 0 (omega arith) ∙ ap (λ front. front ++ (get_or bs (n + 1) 0 ∷ [])) (take_more bs n 0 (omega arith)) in
+      let apart = append_assoc (take n bs) (get_or bs n 0 ∷ []) (get_or bs (n + 1) 0 ∷ []) in
+      let before = written_front k (omega arith) in
+      let more : written (take (suc k) entries) ≡ written (take k entries) ++ bytes_of_16 (get_or entries k 0) =
+      ap (λ j. written (take j entries)) next ∙ written_more entries k (omega arith) in
+      cc
 
--- one entry more, made of the next two bytes
-pub written_set : (bs entries : List ℕ) (k entry : ℕ) → k < length entries → 2 * k + 1 < length bs → get_or bs (2 * k) 0 < 256
-    → entry ≡ number_16 (2 * k) bs → written (take k entries) ≡ take (2 * k) bs
-    → written (take (k + 1) (set entries k entry)) ≡ take (2 * (k + 1)) bs
-written_set bs entries k entry within room small is before =
-    let n : ℕ = 2 * k in
-    let back : bytes_of_16 entry ≡ get_or bs n 0 ∷ get_or bs (n + 1) 0 ∷ [] =
-    ap bytes_of_16 is ∙ bytes_of_16_back (get_or bs n 0) (get_or bs (n + 1) 0) small in
-    let place : 2 * (k + 1) ≡ n + 1 + 1 = omega arith in
-    let two : take (n + 1 + 1) bs ≡ (take n bs ++ (get_or bs n 0 ∷ [])) ++ (get_or bs (n + 1) 0 ∷ []) =
-    take_more bs (n + 1) 0 (omega arith) ∙ ap (λ front. front ++ (get_or bs (n + 1) 0 ∷ [])) (take_more bs n 0 (omega arith)) in
-    let apart = append_assoc (take n bs) (get_or bs n 0 ∷ []) (get_or bs (n + 1) 0 ∷ []) in
-    let more : written (take (k + 1) (set entries k entry)) ≡ written (take k entries) ++ bytes_of_16 entry =
-    ap written (take_more_set entries k entry within) ∙ sym (flat_map_more bytes_of_16 [] (take k entries) entry) in
-    cc
+  pub written_all : written entries ≡ take 32 bs
+  written_all = sym (ap written (take_all 16 entries (omega arith))) ∙ written_front 16 (omega arith)
+
+-- each byte is one of its entry's two
+pub byte_written : (entries : List ℕ) (i : ℕ) → i < 2 * length entries
+    → get_or (written entries) i 0 ≡ get_or (bytes_of_16 (get_or entries (i / 2) 0)) (i % 2) 0
+byte_written [] i h = absurd (omega arith)
+byte_written (n ∷ entries) zero h = refl
+byte_written (n ∷ entries) (suc zero) h = refl
+byte_written (n ∷ entries) (suc (suc i)) h =
+    let half : suc (suc i) / 2 ≡ suc (i / 2) = omega arith in
+    let side : suc (suc i) % 2 ≡ i % 2 = omega arith in
+    byte_written entries i (omega arith)
+    ∙ sym (ap (λ j. get_or (bytes_of_16 (get_or (n ∷ entries) j 0)) (suc (suc i) % 2) 0) half
+    ∙ ap (λ j. get_or (bytes_of_16 (get_or entries (i / 2) 0)) j 0) side)
 
 -- the number that stands in the bytes for a seat is the seat's entry
 pub number_written : (entries : List ℕ) (k : ℕ) → k < length entries → number_16 (2 * k) (written entries) ≡ get_or entries k 0

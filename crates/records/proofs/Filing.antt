@@ -1,6 +1,8 @@
 -- Files of letters, record by record.
-use Rattle.std.proofs.Common.{◌≡◌, ℕ, zero, suc, ◌+◌, ◌*◌, ◌<◌, List, [], ◌∷◌, ◌++◌, length, get_or, take, drop, set, None, sym, refl, ap, ◌∙◌, arith}
-use Rattle.std.proofs.lemmas.List.{flat_map_more, take-append-drop, take-take, drop-take, take_at, take_more, take_more_set, drop_at, drop_all, drop-set-lt, drop-drop, length-append, length-drop}
+use Rattle.std.proofs.Common.{◌≡◌, ℕ, zero, suc, ◌+◌, ◌*◌, ◌<◌, min, List, [], ◌∷◌, ◌++◌, length, get_or, take, drop, set, None, sym, refl, ap, ◌∙◌, ⊎_elim, arith}
+use Rattle.std.proofs.lemmas.Bool.{cases_lt}
+use Rattle.std.proofs.lemmas.List.{flat_map_more, take-append-drop, take-take, drop-take, take_at, take_all, take_more, take_more_set, length-take-le, drop_at, drop_all, drop-set-lt, drop-drop, length-append, length-drop}
+use Rattle.std.specs.Simd.{first_chunks}
 use Rattle.letters.specs.declared.letter.Letter.{Letter}
 use Rattle.letters.specs.Forms.{Form, Lawful}
 use Rattle.letters.specs.Letters.{parts_of}
@@ -9,10 +11,10 @@ use Rattle.records.specs.Buffers.{overlaid}
 use Rattle.records.specs.Files.{begun_records, file_fault, file_of}
 use Rattle.records.specs.Readers.{left}
 use Rattle.records.specs.Reading.{Begins}
-use Rattle.records.specs.Records.{parts_written, record_of, record_size, wrong_front}
+use Rattle.records.specs.Records.{parts_written, record_of, record_size, wrong_byte, wrong_front}
 use Rattle.records.proofs.Faults.{right_each}
 use Rattle.records.proofs.Overlays.{overlaid-after}
-use Rattle.records.proofs.RoundTrip.{begun, record_long, written_back}
+use Rattle.records.proofs.RoundTrip.{begun, front_whole, record_long, written_back}
 
 pub take_add : {X : Type 0} (n m : ℕ) (xs : List X) → take (n + m) xs ≡ take n xs ++ take m (drop n xs)
 take_add n m xs =
@@ -110,3 +112,44 @@ module _ {B : Type 0} (form : Form B) where
         ∙ drop_at (record_of form y) (file_of form ys) record_size (record_long form laws y) in
         let rest : xs ≡ ys = file_one xs ys (omega arith) later in
         cc
+
+-- a file cut into records
+pub chunk_at : (k : ℕ) (bs : List ℕ) (i : ℕ) → i < k → get_or (first_chunks record_size k bs) i [] ≡ take record_size (left bs i)
+chunk_at zero bs i h = absurd (omega arith)
+chunk_at (suc k) bs zero h = refl
+chunk_at (suc k) bs (suc i) h =
+    let size : record_size * suc i ≡ record_size + record_size * i = omega arith in
+    chunk_at k (drop record_size bs) i (omega arith)
+    ∙ ap (take record_size) (drop-drop (record_size * i) record_size bs ∙ ap (λ n. drop n bs) (sym size))
+
+-- the first record of what is left, or the short end of the file
+pub chunk_front : (rest piece more : List ℕ) → rest ≡ piece ++ more → length piece ≡ min record_size (length rest) → piece ≡ take record_size rest
+chunk_front rest piece more is long =
+    let both = length-append piece more in
+    let whole = ap length is in
+    let front : take (length piece) rest ≡ piece = ap (take (length piece)) is ∙ take_at piece more (length piece) refl in
+    ⊎_elim
+    (λ few. let all : length piece ≡ length rest = omega arith in
+    sym front ∙ take_all (length piece) rest (omega arith) ∙ sym (take_all record_size rest (omega arith)))
+    (λ enough. let one : length piece ≡ record_size = omega arith in sym front ∙ ap (λ n. take n rest) one)
+    (cases_lt (length rest) record_size)
+
+-- and what is left after it
+pub chunk_rest : (rest piece more : List ℕ) → rest ≡ piece ++ more → length piece ≡ min record_size (length rest) → more ≡ drop record_size rest
+chunk_rest rest piece more is long =
+    let both = length-append piece more in
+    let whole = ap length is in
+    let back : drop (length piece) rest ≡ more = ap (drop (length piece)) is ∙ drop_at piece more (length piece) refl in
+    ⊎_elim
+    (λ few. let all : length piece ≡ length rest = omega arith in
+    sym back ∙ drop_all (length piece) rest (omega arith) ∙ sym (drop_all record_size rest (omega arith)))
+    (λ enough. let one : length piece ≡ record_size = omega arith in sym back ∙ ap (λ n. drop n rest) one)
+    (cases_lt (length rest) record_size)
+
+pub chunk_first : {B : Type 0} (form : Form B) (laws : Lawful form) (rest : List ℕ) → wrong_front form (take record_size rest) ≡ wrong_front form rest
+chunk_first form laws rest = ⊎_elim
+    (λ few. ap (wrong_front form) (take_all record_size rest (omega arith)))
+    (λ enough.
+    front_whole form laws (take record_size rest) (omega (arith, length-take-le record_size rest enough))
+    ∙ ap (wrong_byte form) (take-take record_size record_size rest (omega arith)) ∙ sym (front_whole form laws rest enough))
+    (cases_lt (length rest) record_size)

@@ -3,7 +3,7 @@ use Rattle.std.proofs.Common.{◌≡◌, ℕ, ◌-◌, ◌*◌, ◌<◌, true, f
 use Rattle.std.proofs.lemmas.List.{take_rest}
 use Rattle.std.proofs.lemmas.Bool.{eq-eqb, ne_eqb}
 use Rattle.letters.specs.Forms.{Form}
-use Rattle.letters.specs.Letters.{Parts}
+use Rattle.letters.specs.declared.parts.Parts.{Parts}
 use Rattle.records.specs.Reading.{Undoes, parts_left, read_answer}
 use Rattle.records.specs.Readers.{at_end, right, wrong, found, left, looked_at}
 use Rattle.records.specs.Records.{record_size, wrong_front}

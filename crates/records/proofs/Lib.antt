@@ -1,6 +1,8 @@
 pub mod Entries
 pub mod Overlays
 pub mod Headers
+pub mod Made
+pub mod Padding
 pub mod Parts
 pub mod RoundTrip
 pub mod Finding

@@ -4,7 +4,7 @@ use Rattle.std.proofs.lemmas.List.{take_at, drop_at, drop-drop, drop_more, get_o
 use Rattle.std.proofs.lemmas.Bool.{eqb-true, eq-eqb}
 use Rattle.letters.specs.Checks.{first_failing}
 use Rattle.letters.specs.Forms.{Form, Lawful, body_space}
-use Rattle.letters.specs.Letters.{Parts}
+use Rattle.letters.specs.declared.parts.Parts.{Parts}
 use Rattle.letters.specs.Numbers.{padded}
 use Rattle.letters.specs.ChecksLemmas.{each_passes, none_fails}
 use Rattle.records.specs.Records.{body_part, is_zero, kind_byte, length_byte, padding, parts_record, poster_byte, record_size, stamp_bytes, zero_byte}

@@ -5,7 +5,8 @@ use Rattle.std.proofs.lemmas.Bool.{le-leb, lt-leb, lt-ltb, leb-true}
 use Rattle.letters.specs.declared.letter.Letter.{Letter}
 use Rattle.letters.specs.Checks.{first_failing}
 use Rattle.letters.specs.Forms.{Form, Lawful, body_space}
-use Rattle.letters.specs.Letters.{Parts, parts, parts_of, entry_at, letter_check}
+use Rattle.letters.specs.declared.parts.Parts.{Parts}
+use Rattle.letters.specs.Letters.{parts, parts_of, entry_at, letter_check}
 use Rattle.letters.specs.Numbers.{number_16}
 use Rattle.letters.specs.ChecksLemmas.{passed, some_none}
 use Rattle.records.specs.Records.{body_part, first_of, is_zero, kind_byte, length_byte, padding, parts_record, parts_written, poster_byte, record_of, record_size, stamp_bytes, stamp_of, wrong_byte, wrong_front, wrong_header}

@@ -1,7 +1,7 @@
 -- A file of records, read one after another.
 use Rattle.std.specs.Prelude.{◌≡◌, ℕ, ◌+◌, ◌*◌, cond, List, [], ◌∷◌, length, take, drop, Some, None, Ok, Err, Option, Result, ◌==◌}
 use Rattle.letters.specs.Forms.{Form}
-use Rattle.letters.specs.Letters.{Parts}
+use Rattle.letters.specs.declared.parts.Parts.{Parts}
 use Rattle.letters.specs.Refusals.{Reason}
 use Rattle.records.specs.declared.fault.Fault.{Fault}
 use Rattle.records.specs.declared.reader.Reader.{Reader}

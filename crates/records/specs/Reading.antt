@@ -2,7 +2,8 @@
 use Rattle.std.specs.Prelude.{◌≡◌, ℕ, ◌≤◌, List, length, take, Some, None, Ok, Err, Option, Result}
 use Rattle.letters.specs.declared.letter.Letter.{Letter}
 use Rattle.letters.specs.Forms.{Form}
-use Rattle.letters.specs.Letters.{Parts, parts_of}
+use Rattle.letters.specs.declared.parts.Parts.{Parts}
+use Rattle.letters.specs.Letters.{parts_of}
 use Rattle.records.specs.Records.{parts_record, parts_written, record_size, wrong_front}
 
 -- a record in which nothing is wrong is read; else its first wrong byte is answered

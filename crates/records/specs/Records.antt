@@ -5,7 +5,8 @@ use Rattle.letters.specs.declared.letter.Letter.{Letter}
 use Rattle.letters.specs.declared.stamp.Stamp.{Stamp}
 use Rattle.letters.specs.Checks.{check, first_failing}
 use Rattle.letters.specs.Forms.{Form, body_space}
-use Rattle.letters.specs.Letters.{Parts, parts, parts_of}
+use Rattle.letters.specs.declared.parts.Parts.{Parts}
+use Rattle.letters.specs.Letters.{parts, parts_of}
 use Rattle.letters.specs.Numbers.{bytes_of_16, number_16, padded}
 
 -- how many bytes a record has

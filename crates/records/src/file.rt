@@ -1,5 +1,5 @@
 // Whole files of letters: into a table and back.
-ghost use Rattle.std.specs.Prelude.{◌≡◌, ◌*◌, ◌/◌, ◌<◌, ◌≤◌, ◌++◌, length, drop, None, Ok, slice_set};
+ghost use Rattle.std.specs.Prelude.{◌≡◌, ◌*◌, ◌/◌, ◌≤◌, ◌++◌, length, drop, None, Ok};
 ghost use Rattle.letters.specs.Refusals.{told};
 ghost use Rattle.records.specs.Files.{FileLoaded, Loaded, file_fault, file_of, save_answer, saved};
 
@@ -22,21 +22,12 @@ fn first_fault<B: Body>(bytes: &[u8]) -> Option<Fault>
 fn scan_faults<B: Body>(bytes: &[u8]) -> Option<Fault>
     ensures { result ≡ file_fault B.form bytes.now }
 {
-    let begun = bytes.len().div_ceil(RECORD_SIZE);
-    for index in 0..begun {
-        if let Some(byte) = first_wrong::<B>(&bytes[RECORD_SIZE * index..bytes.len()]) {
+    for (index, record) in bytes.chunks(RECORD_SIZE).enumerate() {
+        if let Some(byte) = first_wrong::<B>(record) {
             return Some(Fault { index, byte });
         }
     }
     None
-}
-
-// Writes a letter into a table.
-fn set_letter<B: Body>(table: &mut [Letter<B>], place: usize, letter: Letter<B>)
-    requires { place < length table.old }
-    ensures { table.new ≡ slice_set table.old place letter }
-{
-    table[place] = letter;
 }
 
 // Fills the front of a table with the letters of a file in which nothing is wrong.
@@ -46,10 +37,10 @@ fn fill_table<B: Body>(bytes: &[u8], table: &mut [Letter<B>], count: usize)
     requires right { file_fault B.form bytes.now ≡ None }
     ensures { Loaded B.form bytes.now table.old table.new (Ok count) }
 {
-    for index in 0..count {
-        let at = RECORD_SIZE * index;
-        let letter = read_letter(&bytes[at..at + RECORD_SIZE]);
-        set_letter(table, index, letter);
+    // Written by index: what goes through `iter_mut` is not known afterwards.
+    let (records, _) = bytes.as_chunks();
+    for (index, record) in records.iter().enumerate() {
+        table[index] = read_letter(record);
     }
 }
 
@@ -93,6 +84,7 @@ fn write_all<B: Body>(letters: &[Letter<B>], out: &mut [u8])
     requires { 96 * length letters.now ≤ length out.old }
     ensures { out.new ≡ file_of B.form letters.now ++ drop (96 * length letters.now) out.old }
 {
+    // Written by index, as above.
     for (index, letter) in letters.iter().enumerate() {
         put(out, RECORD_SIZE * index, &to_record(letter));
     }

@@ -5,7 +5,7 @@ ghost use Rattle.records.specs.Files.{load_reason};
 use crate::fault::Fault;
 
 // A refusal of a whole file. Its number and values stand in the definition `load_reason`.
-#[derive(Clone, Copy)]
+#[derive(Clone, Copy, Debug, PartialEq, Eq)]
 pub enum LoadRefusal {
     // a record is bad
     Bad(Fault),

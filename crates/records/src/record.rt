@@ -1,7 +1,7 @@
 // One letter as a record.
-ghost use Rattle.std.specs.Prelude.{◌≡◌, ◌≤◌, ◌++◌, length, drop, None};
+ghost use Rattle.std.specs.Prelude.{◌≡◌, ◌≤◌, not, ◌++◌, drop, None};
+ghost use Rattle.std.specs.List.{position};
 ghost use Rattle.letters.specs.Checks.{first_failing};
-ghost use Rattle.letters.specs.Letters.{parts};
 ghost use Rattle.records.specs.Reading.{LeftBy, RecordRead, read_answer};
 ghost use Rattle.records.specs.Records.{body_part, is_zero, kind_byte, record_of, wrong_byte, wrong_front, wrong_header};
 
@@ -9,7 +9,7 @@ use crate::bytes::{number_at, put};
 use crate::stamps::{read_stamp, write_stamp};
 use letters::body::{BODY_SPACE, Body};
 use letters::letter::Letter;
-use letters::stamp::Stamp;
+use letters::parts::Parts;
 
 // How many bytes a record has.
 pub const RECORD_SIZE: usize = 96;
@@ -34,55 +34,40 @@ fn assemble(stamp: &[u8; 32], header: &[u8; 4], body: &[u8; BODY_SPACE]) -> [u8;
 }
 
 // Fills the lent parts with those of the letter whose record stands at the front, or answers the first wrong byte.
-pub fn read_record<B: Body>(
-    bytes: &[u8],
-    stamp: &mut Stamp,
-    poster: &mut u8,
-    body: &mut B,
-) -> Result<(), u8>
-    ensures { RecordRead B.form bytes.now (parts stamp.old poster.old body.old) (parts stamp.new poster.new body.new) result }
+pub fn read_record<B: Body>(bytes: &[u8], parts: &mut Parts<B>) -> Result<(), u8>
+    ensures { RecordRead B.form bytes.now parts.old parts.new result }
 {
-    read_front(bytes, stamp, poster, body)
+    read_front(bytes, parts)
 }
 
-fn read_front<B: Body>(
-    bytes: &[u8],
-    stamp: &mut Stamp,
-    poster: &mut u8,
-    body: &mut B,
-) -> Result<(), u8>
-    ensures { RecordRead B.form bytes.now (parts stamp.old poster.old body.old) (parts stamp.new poster.new body.new) result }
+fn read_front<B: Body>(bytes: &[u8], parts: &mut Parts<B>) -> Result<(), u8>
+    ensures { RecordRead B.form bytes.now parts.old parts.new result }
 {
-    if bytes.len() < RECORD_SIZE {
-        return Err(bytes.len() as u8);
+    match bytes.first_chunk() {
+        Some(record) => read_whole(record, parts),
+        None => Err(bytes.len() as u8),
     }
-    read_whole(&bytes[0..RECORD_SIZE], stamp, poster, body)
 }
 
-// The same of 96 bytes: looks first, then fills.
-fn read_whole<B: Body>(
-    bytes: &[u8],
-    stamp: &mut Stamp,
-    poster: &mut u8,
-    body: &mut B,
-) -> Result<(), u8>
-    requires { length bytes.now ≡ 96 }
+// The same of a whole record: looks first, then fills.
+fn read_whole<B: Body>(bytes: &[u8; RECORD_SIZE], parts: &mut Parts<B>) -> Result<(), u8>
     ensures answer { result ≡ read_answer (wrong_byte B.form bytes.now) }
-    ensures left { LeftBy B.form bytes.now (parts stamp.old poster.old body.old) (parts stamp.new poster.new body.new) (wrong_byte B.form bytes.now) }
+    ensures left { LeftBy B.form bytes.now parts.old parts.new (wrong_byte B.form bytes.now) }
 {
     if let Some(place) = wrong_byte::<B>(bytes) {
         return Err(place);
     }
-    *stamp = read_stamp(bytes);
-    *poster = bytes[32];
-    *body = read_body(bytes);
+    *parts = Parts {
+        stamp: read_stamp(bytes),
+        poster: bytes[32],
+        body: read_body(bytes),
+    };
     Ok(())
 }
 
 // The body of a record in which nothing is wrong.
-fn read_body<B: Body>(bytes: &[u8]) -> B
-    requires size { length bytes.now ≡ 96 }
-    requires right { wrong_byte B.form bytes.now ≡ None }
+fn read_body<B: Body>(bytes: &[u8; RECORD_SIZE]) -> B
+    requires { wrong_byte B.form bytes.now ≡ None }
     ensures kind { B.form.kind result ≡ kind_byte bytes.now }
     ensures bytes { B.form.bytes result ≡ body_part bytes.now }
 {
@@ -91,9 +76,8 @@ fn read_body<B: Body>(bytes: &[u8]) -> B
 }
 
 // The letter of a record in which nothing is wrong.
-pub(crate) fn read_letter<B: Body>(bytes: &[u8]) -> Letter<B>
-    requires size { length bytes.now ≡ 96 }
-    requires right { wrong_byte B.form bytes.now ≡ None }
+pub(crate) fn read_letter<B: Body>(bytes: &[u8; RECORD_SIZE]) -> Letter<B>
+    requires { wrong_byte B.form bytes.now ≡ None }
     ensures { record_of B.form result ≡ bytes.now }
 {
     Letter::make(read_stamp(bytes), bytes[32], read_body(bytes))
@@ -103,15 +87,14 @@ pub(crate) fn read_letter<B: Body>(bytes: &[u8]) -> Letter<B>
 pub fn first_wrong<B: Body>(bytes: &[u8]) -> Option<u8>
     ensures { result ≡ wrong_front B.form bytes.now }
 {
-    if bytes.len() < RECORD_SIZE {
-        return Some(bytes.len() as u8);
+    match bytes.first_chunk() {
+        Some(record) => wrong_byte::<B>(record),
+        None => Some(bytes.len() as u8),
     }
-    wrong_byte::<B>(&bytes[0..RECORD_SIZE])
 }
 
-// The first wrong byte of 96.
-fn wrong_byte<B: Body>(bytes: &[u8]) -> Option<u8>
-    requires { length bytes.now ≡ 96 }
+// The first wrong byte of a whole record.
+fn wrong_byte<B: Body>(bytes: &[u8; RECORD_SIZE]) -> Option<u8>
     ensures { result ≡ wrong_byte B.form bytes.now }
 {
     if let Some(place) = wrong_header::<B>(bytes) {
@@ -125,8 +108,7 @@ fn wrong_byte<B: Body>(bytes: &[u8]) -> Option<u8>
 }
 
 // The first wrong byte of the 36 before the body.
-fn wrong_header<B: Body>(bytes: &[u8]) -> Option<u8>
-    requires { length bytes.now ≡ 96 }
+fn wrong_header<B: Body>(bytes: &[u8; RECORD_SIZE]) -> Option<u8>
     ensures { result ≡ wrong_header B.form bytes.now }
 {
     let poster = bytes[32];
@@ -149,14 +131,17 @@ fn wrong_header<B: Body>(bytes: &[u8]) -> Option<u8>
 }
 
 // The first byte that is not zero, from a place on.
-fn nonzero_from(bytes: &[u8], from: u8) -> Option<u8>
-    requires { (length bytes.now ≡ 96) × (from ≤ 96) }
+fn nonzero_from(bytes: &[u8; RECORD_SIZE], from: u8) -> Option<u8>
+    requires { from ≤ 96 }
     ensures { result ≡ first_failing is_zero from (drop from bytes.now) }
 {
-    for place in from..96 {
-        if bytes[place as usize] != 0 {
-            return Some(place);
-        }
-    }
-    None
+    let place = first_nonzero(&bytes[from as usize..])?;
+    Some(from + place as u8)
+}
+
+// The first byte that is not zero.
+fn first_nonzero(bytes: &[u8]) -> Option<usize>
+    ensures { result ≡ position (λ b. not (is_zero b)) bytes.now }
+{
+    bytes.iter().position(|b| *b != 0)
 }

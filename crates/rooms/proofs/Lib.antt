@@ -3,8 +3,6 @@ pub mod Posting
 pub mod Showing
 pub mod Taking
 pub mod Closing
-pub mod Drafts
-mod Returning
 pub mod Stepping
 pub mod Running
 pub mod Drawing

@@ -3,7 +3,8 @@ use Rattle.std.proofs.Common.{◌≡◌, ℕ, List, length, set, Ok, ap, ◌∙�
 use Rattle.letters.specs.declared.letter.Letter.{Letter}
 use Rattle.letters.specs.declared.stamp.Stamp.{Stamp}
 use Rattle.letters.specs.Letters.{parts, parts_of}
-use Rattle.seats.specs.Outcomes.{PostLogs, Slip, answered, post_answer, post_check, posted_room, posted_seat, slip_of}
+use Rattle.seats.specs.declared.slip.Slip.{Slip}
+use Rattle.seats.specs.Outcomes.{PostLogs, answered, post_answer, post_check, posted_room, posted_seat, slip_of}
 use Rattle.seats.specs.Rooms.{RoomState, foot, seat_at}
 use Rattle.rooms.specs.Calls.{post_room}
 

@@ -10,9 +10,9 @@ use Rattle.rooms.specs.States.{state}
 pub sound : (r : Room) → Sound (state r)
 sound r = record {
   some = r.some;
-  few = r.few;
-  quotaed = r.quotaed;
-  small = r.small;
+  few = r.terms.few;
+  quotaed = r.terms.quotaed;
+  small = r.terms.small;
   table = r.table;
   whole = r.whole;
   within = r.within;

@@ -36,15 +36,15 @@ runnable d logs holds c steps replies can = record {
 module _ {B : Type 0} (d : Draft) (logs holds : List (Letter B)) (c : Meaning (Letter B)) (laws : Lawful c) (steps replies : ℕ)
     (can : Runnable (draft_state d) (length logs) (length holds) c steps replies) where
   silent_seat : (k : ℕ) → k < c.seats → waits_at c k ≡ 0
-  silent_seat k lt = (decides_quiet c d.count).0 can.silent k (omega (arith, can.served))
+  silent_seat k lt = (decides_quiet c d.terms.count).0 can.silent k (omega (arith, can.served))
 
   -- the room as the draft opens it
   pub as_opened : Opened (moment (opened (draft_state d)) logs holds c)
   as_opened = record {
     some_seats = can.some_seats;
-    few_seats = d.few;
-    some_quota = d.quotaed;
-    few_letters = d.small;
+    few_seats = d.terms.few;
+    some_quota = d.terms.quotaed;
+    few_letters = d.terms.small;
     seats = refl;
     logs = can.logs_long;
     holds = can.holds_long;

@@ -4,7 +4,8 @@ use Rattle.std.proofs.lemmas.List.{get_or_default, get_or-map}
 use Rattle.std.proofs.lemmas.Bool.{and_from, lt-ltb}
 use Rattle.std.proofs.lemmas.Bool.Decides.{nat_tests}
 use Rattle.letters.specs.declared.letter.Letter.{Letter}
-use Rattle.letters.specs.Letters.{Parts, letter_check, parts_of}
+use Rattle.letters.specs.declared.parts.Parts.{Parts}
+use Rattle.letters.specs.Letters.{letter_check, parts_of}
 use Rattle.letters.specs.Names.{Name}
 use Rattle.letters.specs.Refusals.{Reason, unless}
 use Rattle.letters.specs.Same.{same_letter}

@@ -1,6 +1,5 @@
 -- A step with a docket in hand, and its answer, as they stand in a trace: by the numbers of the docket.
 use Rattle.std.specs.Prelude.{Some, None, Ok, Err, Option, Result}
-use Rattle.letters.specs.declared.refusal.Refusal.{Refusal}
 use Rattle.letters.specs.Names.{name_of}
 use Rattle.letters.specs.Refusals.{reason}
 use Rattle.seats.specs.Outcomes.{taken_as}
@@ -11,36 +10,26 @@ use Rattle.rooms.specs.declared.asking.Answer.{Answer}
 use Rattle.rooms.specs.declared.asking.Answer.TheVariants as answers
 use Rattle.rooms.specs.declared.asking.Ask.{Ask}
 use Rattle.rooms.specs.declared.asking.Ask.TheVariants as asks
+use Rattle.rooms.specs.declared.asking.Declined.{Declined}
 use Rattle.rooms.specs.declared.docket.Docket.{Docket}
-use Rattle.rooms.specs.declared.docket.Returned.{Returned}
 use Rattle.rooms.specs.States.{slip}
 
 -- what is asked
 abbrev pub move_of : {B : Type 0} → Ask B → Move B
 move_of (asks.Post s body) = moves.Post s body
-move_of (asks.Send d) = moves.Send d.room d.seat d.number
-move_of (asks.Park d) = moves.Park d.room d.seat d.number
+move_of (asks.Send d) = moves.Send (slip d)
+move_of (asks.Park d) = moves.Park (slip d)
 move_of (asks.Collect s) = moves.Collect s
 move_of (asks.Take s place) = moves.Take s place
 move_of (asks.Show s) = moves.Show s
 
 -- what is answered: the case, with its values or its number
-abbrev pub answer_as : Answer → traces.Answer
-answer_as (answers.Docket d) = traces.docket (slip d)
-answer_as answers.Done = traces.done
-answer_as (answers.Taken t) = traces.taken (taken_as t).0 (taken_as t).1
-answer_as (answers.Shown id) = traces.showed (name_of id)
-answer_as (answers.Refused why) = traces.refused (reason why)
-answer_as (answers.Returned d why) = traces.refused (reason why)
-
--- why a step was refused, where it was
-abbrev pub why_not : Answer → Option Refusal
-why_not (answers.Docket d) = None
-why_not answers.Done = None
-why_not (answers.Taken t) = None
-why_not (answers.Shown id) = None
-why_not (answers.Refused why) = Some why
-why_not (answers.Returned d why) = Some why
+abbrev pub answer_as : Result Answer Declined → traces.Answer
+answer_as (Ok (answers.Docket d)) = traces.docket (slip d)
+answer_as (Ok answers.Done) = traces.done
+answer_as (Ok (answers.Taken t)) = traces.taken (taken_as t).0 (taken_as t).1
+answer_as (Ok (answers.Shown id)) = traces.showed (name_of id)
+answer_as (Err back) = traces.refused (reason back.refusal)
 
 -- the docket that an answer holds
 abbrev pub docket_in : Answer → Option Docket
@@ -48,8 +37,6 @@ docket_in (answers.Docket d) = Some d
 docket_in answers.Done = None
 docket_in (answers.Taken t) = None
 docket_in (answers.Shown id) = None
-docket_in (answers.Refused why) = None
-docket_in (answers.Returned d why) = Some d
 
 -- the docket that a step brings
 abbrev pub brought : {B : Type 0} → Ask B → Option Docket
@@ -61,13 +48,9 @@ brought (asks.Take s place) = None
 brought (asks.Show s) = None
 
 -- the docket that comes back
-abbrev pub returned : Answer → Option Docket
-returned (answers.Docket d) = None
-returned answers.Done = None
-returned (answers.Taken t) = None
-returned (answers.Shown id) = None
-returned (answers.Refused why) = None
-returned (answers.Returned d why) = Some d
+abbrev pub returned : Result Answer Declined → Option Docket
+returned (Ok answer) = None
+returned (Err back) = back.docket
 
 -- by a no the one that was brought comes back, and none otherwise
 abbrev pub to_return : Option Docket → traces.Answer → Option Docket
@@ -76,8 +59,3 @@ to_return d traces.done = None
 to_return d (traces.taken how i) = None
 to_return d (traces.showed i) = None
 to_return d (traces.refused why) = d
-
--- the docket that a send or a park gives back
-abbrev pub kept_docket : Result (Unit {0}) Returned → Option Docket
-kept_docket (Ok done) = None
-kept_docket (Err back) = Some back.docket

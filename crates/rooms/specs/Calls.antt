@@ -2,7 +2,8 @@
 use Rattle.std.specs.Prelude.{◌≡◌, ℕ, Ok, Err, Result, slice_index_or}
 use Rattle.letters.specs.Refusals.{Reason}
 use Rattle.carriers.specs.Meaning.{Drawn, Meaning}
-use Rattle.seats.specs.Outcomes.{Slip, after, posted_room}
+use Rattle.seats.specs.declared.slip.Slip.{Slip}
+use Rattle.seats.specs.Outcomes.{after, posted_room}
 use Rattle.seats.specs.Rooms.{RoomState}
 
 -- the room after a post

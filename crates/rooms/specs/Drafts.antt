@@ -1,5 +1,6 @@
 -- A room before it opens, and its opening.
-use Rattle.std.specs.Prelude.{ℕ, ◌+◌, ◌*◌, Bool, false, not, ◌&&◌, ◌||◌, List, [], ◌∷◌, take, replicate, Ok, Result, ◌==◌, nat_eq, nat_le, nat_lt, slice_set}
+use Rattle.std.specs.Prelude.{ℕ, ◌+◌, ◌*◌, Bool, not, ◌&&◌, ◌||◌, List, take, replicate, Ok, Result, ◌==◌, nat_eq, nat_le, nat_lt, slice_set}
+use Rattle.std.specs.List.{list_any}
 use Rattle.letters.specs.Order.{each_below}
 use Rattle.letters.specs.Refusals.{Reason, unless}
 use Rattle.carriers.specs.Meaning.{Meaning, waits_at}
@@ -17,7 +18,7 @@ pub record DraftState : Type 0 where
 
 -- what a draft holds
 abbrev pub draft_state : Draft → DraftState
-draft_state d = record { number = d.number; quota = d.quota; names = d.names; count = d.count }
+draft_state d = record { number = d.terms.number; quota = d.terms.quota; names = d.terms.names; count = d.terms.count }
 
 -- a room may have this quota
 abbrev pub draft_check : ℕ → Result (Unit {0}) Reason
@@ -29,8 +30,7 @@ drafted number quota = record { number = number; quota = quota; names = replicat
 
 -- a list has a number
 abbrev pub has : List ℕ → ℕ → Bool
-has [] n = false
-has (x ∷ xs) n = x == n || has xs n
+has xs n = list_any (λ x. x == n) xs
 
 -- the next seat may have this name
 abbrev pub enrol_check : DraftState → ℕ → Result (Unit {0}) Reason

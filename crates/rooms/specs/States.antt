@@ -1,7 +1,7 @@
 -- A room and a docket by what they hold.
 use Rattle.std.specs.Prelude.{◌≡◌, Ok, Err, Result}
 use Rattle.letters.specs.Refusals.{Reason, reason}
-use Rattle.seats.specs.Outcomes.{Slip}
+use Rattle.seats.specs.declared.slip.Slip.{Slip}
 use Rattle.seats.specs.Rooms.{RoomState}
 use Rattle.rooms.specs.declared.docket.Docket.{Docket}
 use Rattle.rooms.specs.declared.docket.Returned.{Returned}
@@ -9,7 +9,7 @@ use Rattle.rooms.specs.declared.room.Room.{Room}
 
 -- what an open room holds
 abbrev pub state : Room → RoomState
-state r = record { number = r.number; names = r.names; count = r.count; quota = r.quota; seats = r.seats }
+state r = record { number = r.terms.number; names = r.terms.names; count = r.terms.count; quota = r.terms.quota; seats = r.seats }
 
 -- the three numbers of a docket
 abbrev pub slip : Docket → Slip

@@ -1,8 +1,8 @@
 // What is asked of a room with a docket in hand, and what it answers.
 ghost use Rattle.std.specs.Prelude.{◌≡◌};
-ghost use Rattle.rooms.specs.Asked.{docket_in, why_not};
+ghost use Rattle.rooms.specs.Asked.{docket_in};
 
-use crate::docket::Docket;
+use crate::docket::{Docket, Returned};
 use letters::letter_id::LetterId;
 use letters::refusal::Refusal;
 use seats::taken::Taken;
@@ -17,33 +17,22 @@ pub enum Ask<B> {
     Show(u8),
 }
 
-// The answer of a step.
+// The answer of a step that was made.
 pub enum Answer {
     Docket(Docket),
     Done,
     Taken(Taken),
     Shown(LetterId),
-    Refused(Refusal),
-    // a docket that was brought and is refused, as it was
-    Returned(Docket, Refusal),
+}
+
+// Why a step was refused, and the docket that it brought, if any, as it was.
+pub struct Declined {
+    pub refusal: Refusal,
+    pub docket: Option<Docket>,
 }
 
 impl Answer {
-    // Why the step was refused, where it was.
-    pub fn refusal(&self) -> Option<Refusal>
-        ensures { result ≡ why_not self.now }
-    {
-        match self {
-            Answer::Docket(_) => None,
-            Answer::Done => None,
-            Answer::Taken(_) => None,
-            Answer::Shown(_) => None,
-            Answer::Refused(why) => Some(*why),
-            Answer::Returned(_, why) => Some(*why),
-        }
-    }
-
-    // The docket that the answer holds, a new one or one that comes back; no docket is lost by this.
+    // The docket that the answer holds; no docket is lost by this.
     pub fn into_docket(self) -> Option<Docket>
         ensures { result ≡ docket_in self }
     {
@@ -52,8 +41,35 @@ impl Answer {
             Answer::Done => None,
             Answer::Taken(_) => None,
             Answer::Shown(_) => None,
-            Answer::Refused(_) => None,
-            Answer::Returned(docket, _) => Some(docket),
+        }
+    }
+}
+
+// Of a step that brought no docket.
+impl From<Refusal> for Declined {
+    ghost use Rattle.std.specs.Prelude.{None};
+
+    ghost from_gives = { λ why declined. declined ≡ record { refusal = why; docket = None } };
+
+    fn from(refusal: Refusal) -> Declined {
+        Declined {
+            refusal,
+            docket: None,
+        }
+    }
+}
+
+// Of a step that brought one.
+impl From<Returned> for Declined {
+    ghost use Rattle.std.specs.Prelude.{Some};
+
+    ghost from_gives = { λ back declined. declined ≡ record { refusal = back.refusal; docket = Some back.docket } };
+
+    fn from(returned: Returned) -> Declined {
+        let Returned { docket, refusal } = returned;
+        Declined {
+            refusal,
+            docket: Some(docket),
         }
     }
 }

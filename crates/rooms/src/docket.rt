@@ -1,13 +1,15 @@
 // The docket of a posted letter.
 ghost use Rattle.std.specs.Prelude.{◌≡◌};
+ghost use Rattle.rooms.specs.States.{slip};
 
 use letters::refusal::Refusal;
+use seats::slip::Slip;
 
 // The right to send one posted letter. It is not Drop: a docket is sent or parked, never let fall.
 pub struct Docket {
-    pub(crate) room: u32,
-    pub(crate) seat: u8,
-    pub(crate) number: u16,
+    room: u32,
+    seat: u8,
+    number: u16,
 }
 
 // A refused docket, as it was, and why it is refused.
@@ -36,5 +38,33 @@ impl Docket {
         ensures { result ≡ self.now.number }
     {
         self.number
+    }
+
+    // The docket of these numbers. It is no `From`, and stays within the crate: outside it nobody can make a docket.
+    pub(crate) fn of(numbers: Slip) -> Docket
+        ensures { slip result ≡ numbers }
+    {
+        let Slip { room, seat, number } = numbers;
+        Docket { room, seat, number }
+    }
+
+    // Its numbers, where it stays.
+    pub(crate) fn slip(&self) -> Slip
+        ensures { result ≡ slip self.now }
+    {
+        let Docket { room, seat, number } = self;
+        Slip {
+            room: *room,
+            seat: *seat,
+            number: *number,
+        }
+    }
+
+    // Its numbers, where it is spent. It is no `From`, and stays within the crate: outside it nobody can let a docket fall.
+    pub(crate) fn into_slip(self) -> Slip
+        ensures { result ≡ slip self }
+    {
+        let Docket { room, seat, number } = self;
+        Slip { room, seat, number }
     }
 }

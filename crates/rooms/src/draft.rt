@@ -1,16 +1,10 @@
 // A room before it opens.
-ghost use Rattle.std.specs.Prelude.{◌*◌, ◌≤◌};
+use crate::terms::Terms;
 
 mod opening;
 
-// What is settled of a room before it opens: its number, its quota, and the names of the boxes that are enrolled.
+// What is settled of a room before it opens; boxes can still be enrolled.
 #[derive(Drop)]
 pub struct Draft {
-    number: u32,
-    quota: u16,
-    names: [u32; 16],
-    count: u8,
-    ghost few: { count ≤ 16 },
-    ghost quotaed: { 1 ≤ quota },
-    ghost small: { count * quota ≤ 256 },
+    terms: Terms,
 }

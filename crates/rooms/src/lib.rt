@@ -7,3 +7,4 @@ pub mod docket;
 pub mod draft;
 pub mod room;
 pub mod run;
+mod terms;

@@ -3,6 +3,7 @@ ghost use Rattle.std.specs.Prelude.{◌≡◌, ℕ, ◌*◌, ◌<◌, ◌≤◌,
 ghost use Rattle.seats.specs.Keeping.{Nobody, Within};
 ghost use Rattle.seats.specs.Seats.{blank};
 
+use crate::terms::Terms;
 use seats::seat::Seat;
 
 mod close;
@@ -16,22 +17,16 @@ mod step;
 mod table;
 mod take;
 
-// A room in which letters are posted: its number, the names of its boxes, how many there are, the quota, and what it keeps
-// for each seat. Open, it is one of three types; a draft comes before it and a closed room after it.
+// A room in which letters are posted: its terms, and what it keeps for each seat. Open, it is one of three types; a draft
+// comes before it and a closed room after it.
 #[derive(Drop)]
 pub struct Room {
-    number: u32,
-    names: [u32; 16],
-    count: u8,
-    quota: u16,
+    terms: Terms,
     seats: [Seat; 16],
-    ghost some: { 1 ≤ count },
-    ghost few: { count ≤ 16 },
-    ghost quotaed: { 1 ≤ quota },
-    ghost small: { count * quota ≤ 256 },
+    ghost some: { 1 ≤ terms.count },
     ghost table: { length seats ≡ 16 },
     ghost whole: { (s : ℕ) → s < 16 → length (get_or seats s blank).clock.entries ≡ 16 },
-    ghost within: { (s : ℕ) → Within quota (slice_index_or seats s blank) },
-    ghost nobody: { (s : ℕ) → Nobody count (slice_index_or seats s blank) },
-    ghost placed: { (s : ℕ) → (get_or seats s blank).held ≤ count * quota },
+    ghost within: { (s : ℕ) → Within terms.quota (slice_index_or seats s blank) },
+    ghost nobody: { (s : ℕ) → Nobody terms.count (slice_index_or seats s blank) },
+    ghost placed: { (s : ℕ) → (get_or seats s blank).held ≤ terms.count * terms.quota },
 }

@@ -1,5 +1,5 @@
 // A room's whole life: it opens and makes one step after the other.
-ghost use Rattle.std.specs.Prelude.{◌≡◌, ◌<◌, ◌≤◌, [], length, drop, Ok, slice_set};
+ghost use Rattle.std.specs.Prelude.{◌≡◌, ◌≤◌, [], length, drop, Ok};
 ghost use Rattle.letters.specs.Refusals.{told};
 ghost use Rattle.lives.specs.Traces.{answer_of, traced};
 ghost use Rattle.lives.specs.Worked.{Leads, Worked, moment};
@@ -25,7 +25,7 @@ pub fn check<B: Body, C: Carrier<Body = B>>(
     holds: &[Letter<B>],
     carrier: &C,
     steps: &[Move<B>],
-    replies: &[Reply],
+    replies: &[Result<Reply, Refusal>],
 ) -> Result<(), Refusal>
     ensures { told (λ u. u) result ≡ run_check (draft_state draft.now) (length logs.now) (length holds.now) (C.Carrier.meaning carrier.now) (length steps.now) (length replies.now) }
 {
@@ -43,7 +43,7 @@ pub fn run<B: Body, C: Carrier<Body = B>, K: Sheet<Body = B>>(
     holds: &mut [Letter<B>],
     carrier: &mut C,
     steps: &[Move<B>],
-    replies: &mut [Reply],
+    replies: &mut [Result<Reply, Refusal>],
 ) -> Room
     requires { run_check (draft_state draft) (length logs.old) (length holds.old) (C.Carrier.meaning carrier.old) (length steps.now) (length replies.old) ≡ Ok tt }
     ensures leads { Leads (moment (opened (draft_state draft)) logs.old holds.old (C.Carrier.meaning carrier.old)) (traced answer_of [] steps.now replies.new) (moment (state result) logs.new holds.new (C.Carrier.meaning carrier.new)) }
@@ -63,22 +63,13 @@ fn step_all<B: Body, C: Carrier<Body = B>>(
     holds: &mut [Letter<B>],
     carrier: &mut C,
     steps: &[Move<B>],
-    replies: &mut [Reply],
+    replies: &mut [Result<Reply, Refusal>],
 )
     requires { length steps.now ≤ length replies.old }
     ensures leads { Leads (moment (state room.old) logs.old holds.old (C.Carrier.meaning carrier.old)) (traced answer_of [] steps.now replies.new) (moment (state room.new) logs.new holds.new (C.Carrier.meaning carrier.new)) }
     ensures rest { drop (length steps.now) replies.new ≡ drop (length steps.now) replies.old }
 {
-    for i in 0..steps.len() {
-        let reply = room.step(logs, holds, carrier, steps[i]);
-        note(replies, i, reply);
+    for (i, asked) in steps.iter().enumerate() {
+        replies[i] = room.step(logs, holds, carrier, *asked);
     }
-}
-
-// Writes a reply down at its place.
-fn note(replies: &mut [Reply], i: usize, reply: Reply)
-    requires { i < length replies.old }
-    ensures { replies.new ≡ slice_set replies.old i reply }
-{
-    replies[i] = reply;
 }

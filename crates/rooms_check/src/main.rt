@@ -7,7 +7,6 @@ use carriers::lines::Lines;
 use letters::body::Body;
 use letters::job::Job;
 use letters::letter::Letter;
-use letters::letter_id::LetterId;
 use letters::refusal::Refusal;
 use letters::stamp::Stamp;
 use lives::moves::Move;
@@ -15,7 +14,7 @@ use lives::reply::Reply;
 use pair::Pair;
 use rooms::draft::Draft;
 use rooms::room::Room;
-use seats::taken::Taken;
+use seats::slip::Slip;
 use sheets::job_list::JobList;
 use spool::Spool;
 use std::io;
@@ -36,72 +35,68 @@ struct Setting {
     size: u32,
 }
 
-// The setting that four bytes write: seats, quota (16 bits, the low byte first), places of a queue.
-fn read_setting(head: &[u8]) -> Option<Setting> {
-    match head {
-        [seats, low, high, size] => Some(Setting {
-            seats: *seats,
-            quota: u16::from_le_bytes([*low, *high]),
-            size: *size as u32,
-        }),
-        _ => None,
+// Why a step or the whole run ends early: a call says no, or printing fails.
+#[derive(Drop)]
+enum Stop {
+    Refused(Refusal),
+    Io(io::Error),
+}
+
+impl From<Refusal> for Stop {
+    fn from(why: Refusal) -> Stop {
+        Stop::Refused(why)
+    }
+}
+
+impl From<io::Error> for Stop {
+    fn from(error: io::Error) -> Stop {
+        Stop::Io(error)
+    }
+}
+
+// Prints the refusal, where there was one.
+fn tell(rt: &HostRuntime, ended: Result<(), Stop>) -> io::Result<()> {
+    match ended {
+        Ok(()) => Ok(()),
+        Err(Stop::Refused(why)) => {
+            let number = why.number();
+            println!(rt; "refused {number}")
+        }
+        Err(Stop::Io(error)) => Err(error),
     }
 }
 
 // The step that twelve bytes write: the call, a seat, a 16-bit number, a 32-bit one, a poster, and zeros.
 // The calls are 1 post an add, 2 post a strike, 3 send, 4 park, 5 collect, 6 take, and show by any other.
 fn read_move(bytes: &[u8]) -> Result<Move<Job>, Refusal> {
-    match bytes {
-        [call, seat, low, high, a, b, c, d, poster, ..] => {
-            let number = u16::from_le_bytes([*low, *high]);
-            let wide = u32::from_le_bytes([*a, *b, *c, *d]);
-            asked(*call, *seat, number, wide, *poster)
-        }
-        _ => Ok(Move::Show(0)),
-    }
-}
-
-fn asked(call: u8, seat: u8, number: u16, wide: u32, poster: u8) -> Result<Move<Job>, Refusal> {
+    let [call, seat, low, high, a, b, c, d, poster, ..] = bytes else {
+        return Ok(Move::Show(0));
+    };
+    let seat = *seat;
+    let number = u16::from_le_bytes([*low, *high]);
+    let wide = u32::from_le_bytes([*a, *b, *c, *d]);
+    let slip = Slip {
+        room: wide,
+        seat,
+        number,
+    };
     match call {
         1 => Ok(Move::Post(seat, Job::Add(wide))),
-        2 => {
-            let job = Job::strike(poster, number)?;
-            Ok(Move::Post(seat, job))
-        }
-        3 => Ok(Move::Send(wide, seat, number)),
-        4 => Ok(Move::Park(wide, seat, number)),
+        2 => Ok(Move::Post(seat, Job::strike(*poster, number)?)),
+        3 => Ok(Move::Send(slip)),
+        4 => Ok(Move::Park(slip)),
         5 => Ok(Move::Collect(seat)),
         6 => Ok(Move::Take(seat, wide)),
         _ => Ok(Move::Show(seat)),
     }
 }
 
-fn print_named(rt: &HostRuntime, word: &str, id: LetterId) -> io::Result<()> {
-    let poster = id.poster();
-    let number = id.number();
-    println!(rt; "{word} {poster}.{number}")
-}
-
-fn print_refusal(rt: &HostRuntime, why: Refusal) -> io::Result<()> {
-    let number = why.number();
-    println!(rt; "refused {number}")
-}
-
 fn print_reply(rt: &HostRuntime, reply: Reply) -> io::Result<()> {
     match reply {
-        Reply::Docket(room, seat, number) => println!(rt; "docket {room} {seat} {number}"),
+        Reply::Docket(Slip { room, seat, number }) => println!(rt; "docket {room} {seat} {number}"),
         Reply::Done => println!(rt; "done"),
-        Reply::Taken(taken) => print_taken(rt, taken),
-        Reply::Shown(id) => print_named(rt, "shown", id),
-        Reply::Refused(why) => print_refusal(rt, why),
-    }
-}
-
-fn print_taken(rt: &HostRuntime, taken: Taken) -> io::Result<()> {
-    match taken {
-        Taken::Stray(id) => print_named(rt, "stray", id),
-        Taken::Repeat(id) => print_named(rt, "repeat", id),
-        Taken::Held(id) => print_named(rt, "held", id),
+        Reply::Taken(taken) => println!(rt; "{taken}"),
+        Reply::Shown(id) => println!(rt; "shown {}.{}", id.poster(), id.number()),
     }
 }
 
@@ -115,9 +110,7 @@ fn print_log(
     print!(rt; "log {seat}")?;
     if let Ok(log) = room.log(logs, holds, seat) {
         for letter in log {
-            let poster = letter.poster();
-            let number = letter.number();
-            print!(rt; " {poster}.{number}")?;
+            print!(rt; " {}.{}", letter.poster(), letter.number())?;
         }
     }
     println!(rt; "")
@@ -129,19 +122,15 @@ fn print_jobs(
     logs: &[Letter<Job>],
     holds: &[Letter<Job>],
     seat: u8,
-) -> io::Result<()> {
+) -> Result<(), Stop> {
     let mut sheet = JobList::new();
-    if let Err(why) = room.draw_up(logs, holds, seat, &mut sheet) {
-        return print_refusal(rt, why);
-    }
+    room.draw_up(logs, holds, seat, &mut sheet)?;
     print!(rt; "jobs {seat}")?;
     for job in sheet.jobs() {
-        let poster = job.poster;
-        let number = job.number;
-        let code = job.code;
-        print!(rt; " {poster}.{number}={code}")?;
+        print!(rt; " {}.{}={}", job.poster, job.number, job.code)?;
     }
-    println!(rt; "")
+    println!(rt; "")?;
+    Ok(())
 }
 
 fn print_seats(
@@ -153,8 +142,22 @@ fn print_seats(
 ) -> io::Result<()> {
     for seat in 0..seats {
         print_log(rt, room, logs, holds, seat)?;
-        print_jobs(rt, room, logs, holds, seat)?;
+        tell(rt, print_jobs(rt, room, logs, holds, seat))?;
     }
+    Ok(())
+}
+
+// Makes the step that the bytes write, and prints what the room replies.
+fn make_step<C: Carrier<Body = Job>>(
+    rt: &HostRuntime,
+    room: &mut Room,
+    logs: &mut [Letter<Job>],
+    holds: &mut [Letter<Job>],
+    carrier: &mut C,
+    bytes: &[u8],
+) -> Result<(), Stop> {
+    let reply = room.step(logs, holds, carrier, read_move(bytes)?)?;
+    print_reply(rt, reply)?;
     Ok(())
 }
 
@@ -167,13 +170,7 @@ fn make_steps<C: Carrier<Body = Job>>(
     steps: &[u8],
 ) -> io::Result<()> {
     for bytes in steps.chunks_exact(12) {
-        match read_move(bytes) {
-            Ok(asked) => {
-                let reply = room.step(logs, holds, carrier, asked);
-                print_reply(rt, reply)?;
-            }
-            Err(why) => print_refusal(rt, why)?,
-        }
+        tell(rt, make_step(rt, room, logs, holds, carrier, bytes))?;
     }
     Ok(())
 }
@@ -186,13 +183,12 @@ fn live<C: Carrier<Body = Job>>(
     holds: &mut [Letter<Job>],
     carrier: &mut C,
     steps: &[u8],
-) -> io::Result<()> {
-    if let Err(why) = draft.check_open(logs, holds, carrier) {
-        return print_refusal(rt, why);
-    }
+) -> Result<(), Stop> {
+    draft.check_open(logs, holds, carrier)?;
     let mut room = draft.open(logs, holds, carrier);
     make_steps(rt, &mut room, logs, holds, carrier, steps)?;
-    print_seats(rt, &room, logs, holds, seats)
+    print_seats(rt, &room, logs, holds, seats)?;
+    Ok(())
 }
 
 fn live_on_pair<C: Carrier<Body = Job> + Drop, D: Carrier<Body = Job> + Drop>(
@@ -203,10 +199,8 @@ fn live_on_pair<C: Carrier<Body = Job> + Drop, D: Carrier<Body = Job> + Drop>(
     second: D,
     blank: Letter<Job>,
     steps: &[u8],
-) -> io::Result<()> {
-    if let Err(why) = Pair::check(&first, &second) {
-        return print_refusal(rt, why);
-    }
+) -> Result<(), Stop> {
+    Pair::check(&first, &second)?;
     let mut pair = Pair::new(first, second);
     let mut logs = [blank; PLACES];
     let mut holds = [blank; PLACES];
@@ -223,34 +217,29 @@ fn make_draft(setting: Setting) -> Result<Draft, Refusal> {
     Ok(draft)
 }
 
-fn run(rt: &HostRuntime, setting: Setting, steps: &[u8]) -> io::Result<()> {
+fn run(rt: &HostRuntime, setting: Setting, steps: &[u8]) -> Result<(), Stop> {
     let blank = Letter::make(Stamp { entries: [1; 16] }, 0, Job::Add(0));
     let mut queues = [blank; QUEUES];
     let mut bytes = [0; BYTES];
-    let draft = match make_draft(setting) {
-        Ok(draft) => draft,
-        Err(why) => return print_refusal(rt, why),
-    };
-    if let Err(why) = Lines::check(&queues, setting.seats, setting.size) {
-        return print_refusal(rt, why);
-    }
-    if let Err(why) = Spool::<Job>::check(&bytes, setting.seats) {
-        return print_refusal(rt, why);
-    }
+    let draft = make_draft(setting)?;
+    Lines::check(&queues, setting.seats, setting.size)?;
+    Spool::<Job>::check(&bytes, setting.seats)?;
     let lines = Lines::new(&mut queues, setting.seats, setting.size);
     let spool = Spool::<Job>::new(&mut bytes, setting.seats);
     live_on_pair(rt, draft, setting.seats, lines, spool, blank, steps)
 }
 
+// The input begins with four bytes: seats, quota (16 bits, the low byte first), places of a queue. The steps follow.
 fn main(rt: HostRuntime) -> io::Result<()> {
     let mut input = Vec::new(rt.alloc());
     let _ = rt.stdin().read_to_end(&mut input)?;
-    let bytes = input.as_slice();
-    if bytes.len() < 4 {
+    let [seats, low, high, size, steps @ ..] = input.as_slice() else {
         return Ok(());
-    }
-    match read_setting(&bytes[0..4]) {
-        Some(setting) => run(&rt, setting, &bytes[4..]),
-        None => Ok(()),
-    }
+    };
+    let setting = Setting {
+        seats: *seats,
+        quota: u16::from_le_bytes([*low, *high]),
+        size: *size as u32,
+    };
+    tell(&rt, run(&rt, setting, steps))
 }

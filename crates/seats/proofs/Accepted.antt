@@ -9,7 +9,8 @@ use Rattle.seats.specs.declared.seat.DocketEvent.TheVariants.{Post}
 use Rattle.seats.specs.Keeping.{Kept, Sound}
 use Rattle.seats.specs.Rooms.{RoomState, seat_at, start, foot, hold_of}
 use Rattle.seats.specs.Seats.{allows, clock_at}
-use Rattle.seats.specs.Outcomes.{Slip, held, carrier_check, first_ready, good_slip, post_check, posted_seat, seat_check, shown_seat, taking}
+use Rattle.seats.specs.declared.slip.Slip.{Slip}
+use Rattle.seats.specs.Outcomes.{held, carrier_check, first_ready, good_slip, post_check, posted_seat, seat_check, shown_seat, taking}
 use Rattle.seats.proofs.Clocks.{seat_kept, clocked_kept, clocked_own, foot_below, row_end}
 use Rattle.seats.proofs.Searches.{found}
 

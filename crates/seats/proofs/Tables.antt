@@ -1,8 +1,8 @@
 -- What a write to a table leaves, and what it leaves of each part.
 use Rattle.std.proofs.Common.{◌≡◌, ℕ, zero, suc, ◌+◌, ◌-◌, ◌*◌, ◌<◌, ◌≤◌, ◌≢◌, ◌⊎◌, List, [], ◌∷◌, ◌++◌, length, get_or, take, drop, set, sym, ap, ◌∙◌, inl, inr, ⊎_elim, mul-le-mul_right, suc-mul, arith}
 use Rattle.std.specs.List.{remove}
-use Rattle.std.proofs.lemmas.List.Edits.{paste_more, length-paste, take-paste, drop-paste, length-remove, get_or-remove_below, get_or-remove_above}
-use Rattle.std.proofs.lemmas.List.{drop_all, drop-set-add, drop-set-lt, take_all, take-set-le, take_more_set, length-drop, length-take-le, get_or-take, get_or-drop, get_or_append_left, get_or-append_right, same_lists}
+use Rattle.std.proofs.lemmas.List.Edits.{length-paste, take-paste, drop-paste, length-remove, get_or-remove_below, get_or-remove_above}
+use Rattle.std.proofs.lemmas.List.{drop-set-add, drop-set-lt, take-set-le, take_more_set, length-drop, length-take-le, get_or-take, get_or-drop, get_or_append_left, get_or-append_right, same_lists}
 use Rattle.std.proofs.lemmas.Bool.{cases_lt}
 use Rattle.seats.specs.Rooms.{closed}
 
@@ -22,22 +22,6 @@ set_each P d (y ∷ ys) zero x new old zero = new
 set_each P d (y ∷ ys) zero x new old (suc t) = old (suc t)
 set_each P d (y ∷ ys) (suc i) x new old zero = old zero
 set_each P d (y ∷ ys) (suc i) x new old (suc t) = set_each P d ys i x new (λ k. old (suc k)) t
-
--- one letter more moves down by one
-pub closed_more : {X : Type 0} (xs ys : List X) (at i : ℕ) (x : X) → at + i + 1 < length xs → ys ≡ closed xs at i → x ≡ get_or ys (at + i + 1) x → set ys (at + i) x ≡ closed xs at (i + 1)
-closed_more xs ys at i x lt so_far is =
-    let behind = drop (at + 1) xs in
-    let long = length-drop (at + 1) xs in
-    let same : get_or ys (at + i + 1) x ≡ get_or behind i x =
-    ap (λ l. get_or l (at + i + 1) x) so_far
-    ∙ sym (get_or-drop (at + i) (closed xs at i) 1 x)
-    ∙ ap (λ l. get_or l 1 x) (drop-paste xs at behind i (omega arith) (omega arith))
-    ∙ get_or-drop (at + i) xs 1 x
-    ∙ ap (λ n. get_or xs n x) (omega arith)
-    ∙ sym (get_or-drop (at + 1) xs i x) in
-    ap (λ y. set ys (at + i) y) (is ∙ same)
-    ∙ ap (λ l. set l (at + i) (get_or behind i x)) so_far
-    ∙ paste_more xs at behind i x (omega arith) (omega arith)
 
 -- a part of a table: n places from a on
 abbrev pub part : {X : Type 0} → ℕ → ℕ → List X → List X
@@ -141,13 +125,3 @@ part_closed_out xs at n b m fits inside out =
     get_d_part (closed xs at n) b m i d lt
     ∙ ⊎_elim (λ before. closed_before xs at n fits (b + i) d (omega arith)) (λ after. closed_after xs at n fits (b + i) d (omega arith)) out
     ∙ sym (get_d_part xs b m i d lt))
-
--- a part past the end of a table is empty
-pub no_part : {X : Type 0} (xs : List X) (a n : ℕ) → length xs ≤ a → [] ≡ part a n xs
-no_part xs a n past = sym (take_all n [] (omega arith)) ∙ ap (take n) (sym (drop_all a xs past))
-
--- a part that goes as far as the table
-pub last_part : {X : Type 0} (xs : List X) (a n : ℕ) → length xs - a ≤ n → part a (length xs - a) xs ≡ part a n xs
-last_part xs a n long =
-    let rest = length-drop a xs in
-    take_all (length xs - a) (drop a xs) (omega arith) ∙ sym (take_all n (drop a xs) (omega arith))

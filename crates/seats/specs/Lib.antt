@@ -3,3 +3,4 @@ pub mod Rooms
 pub mod Keeping
 pub mod Outcomes
 pub mod Scans
+pub mod Takings

@@ -9,16 +9,11 @@ use Rattle.carriers.specs.Meaning.{Drawn, Meaning, PutOn, draw_answer, put_answe
 use Rattle.seats.specs.declared.seat.Seat.{Seat}
 use Rattle.seats.specs.declared.seat.DocketEvent.{DocketEvent}
 use Rattle.seats.specs.declared.seat.DocketEvent.TheVariants.{Post, Send, Collect}
+use Rattle.seats.specs.declared.slip.Slip.{Slip}
 use Rattle.seats.specs.declared.taken.Taken.{Taken}
 use Rattle.seats.specs.declared.taken.Taken.TheVariants as taken
 use Rattle.seats.specs.Rooms.{RoomState, closed, foot, hold_of, log_of, seat_at, start, suffice, with_seat}
 use Rattle.seats.specs.Seats.{allows, clock_at, clocked, docketed, holding, raised, released}
-
--- the three numbers of a docket
-pub record Slip : Type 0 where
-  pub room : ℕ
-  pub seat : ℕ
-  pub number : ℕ
 
 -- an answer where a check says yes
 abbrev pub answered : {X : Type 0} → Result (Unit {0}) Reason → X → Result X Reason

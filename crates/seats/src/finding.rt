@@ -15,13 +15,11 @@ pub fn find_named<B: Copy>(
 ) -> Option<(usize, Letter<B>)>
     ensures { result ≡ first (is_called poster number) 0 letters.now }
 {
-    for at in 0..letters.len() {
-        let letter = letters[at];
-        if is_named(&letter, poster, number) {
-            return Some((at, letter));
-        }
-    }
-    None
+    letters
+        .iter()
+        .copied()
+        .enumerate()
+        .find(|(_, letter)| is_named(letter, poster, number))
 }
 
 // Whether the letter has this name.
@@ -42,20 +40,18 @@ pub fn first_ready<B: Copy>(
 ) -> Option<(usize, Letter<B>)>
     ensures { result ≡ first (ready count quota seat clock.now) 0 hold.now }
 {
-    'arrivals: for at in 0..hold.len() {
-        let letter = hold[at];
-        if !is_due(&letter, count, quota, seat, clock) {
+    'arrivals: for (at, letter) in hold.iter().enumerate() {
+        if !is_due(letter, count, quota, seat, clock) {
             continue;
         }
-        let poster = letter.poster();
-        for other in 0..16 {
-            let stamped = letter.stamp().entry(other);
-            let shown = clock.entry(other);
+        let poster = letter.poster() as usize;
+        let known = letter.stamp().entries.iter().zip(&clock.entries);
+        for (other, (stamped, shown)) in known.enumerate() {
             if other != poster && stamped > shown {
                 continue 'arrivals;
             }
         }
-        return Some((at, letter));
+        return Some((at, *letter));
     }
     None
 }

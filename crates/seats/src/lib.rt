@@ -4,4 +4,5 @@
 pub mod finding;
 pub mod parts;
 pub mod seat;
+pub mod slip;
 pub mod taken;

@@ -1,7 +1,8 @@
 // A seat of a room.
-ghost use Rattle.std.specs.Prelude.{◌≡◌, if◌then◌else◌, nat_lt, slice_set};
+ghost use Rattle.std.specs.Prelude.{◌≡◌, if◌then◌else◌, nat_lt};
 ghost use Rattle.seats.specs.Seats.{allows, clock_at, clocked, docketed, holding, log_length, raised, released};
 
+use crate::parts::put;
 use causality::docket::DocketState;
 use letters::stamp::Stamp;
 
@@ -42,7 +43,7 @@ impl Seat {
     pub fn set_clock(&mut self, poster: u8, number: u16)
         ensures { self.new ≡ clocked self.old poster number }
     {
-        set_entry(&mut self.clock.entries, poster as usize, number);
+        put(&mut self.clock.entries, poster as usize, number);
     }
 
     // Raises the clock's entry for a seat by one, or answers false and leaves it where it has come to the quota.
@@ -74,29 +75,17 @@ impl Seat {
     pub fn release(&mut self)
         ensures { self.new ≡ released self.old }
     {
-        if self.held > 0 {
-            self.held -= 1;
-        }
+        self.held = self.held.saturating_sub(1);
     }
 
     // The length of the seat's log: how many letters it has posted and shown.
     pub fn log_len(&self) -> u32
         ensures { result ≡ log_length self.now }
     {
-        let entries: &[u16] = &self.clock.entries;
-        let mut total = 0;
-        for number in entries {
-            total += *number as u32;
-        }
-        total
-    }
-}
-
-// Sets one entry; past the last there is none.
-fn set_entry(entries: &mut [u16], at: usize, number: u16)
-    ensures { entries.new ≡ slice_set entries.old at number }
-{
-    if at < entries.len() {
-        entries[at] = number;
+        self.clock
+            .entries
+            .iter()
+            .map(|number| u32::from(*number))
+            .sum()
     }
 }

@@ -1,5 +1,9 @@
 // What becomes of a letter that is taken.
+ghost use Rattle.std.specs.Prelude.{Some};
+ghost use Rattle.seats.specs.Takings.{taken_text};
+
 use letters::letter_id::LetterId;
+use std::fmt;
 
 // The answer of a take, with the letter's name.
 #[derive(Clone, Copy)]
@@ -10,4 +14,16 @@ pub enum Taken {
     Repeat(LetterId),
     // at the end of the hold
     Held(LetterId),
+}
+
+impl fmt::Display for Taken {
+    ghost output = { λ taken. Some (taken_text taken) };
+
+    fn fmt<W: fmt::Write>(&self, f: &mut fmt::Formatter<W>) -> fmt::Result {
+        match self {
+            Taken::Stray(id) => write!(f, "stray {}.{}", id.poster(), id.number()),
+            Taken::Repeat(id) => write!(f, "repeat {}.{}", id.poster(), id.number()),
+            Taken::Held(id) => write!(f, "held {}.{}", id.poster(), id.number()),
+        }
+    }
 }

@@ -1,6 +1,5 @@
 -- Job lists: the open jobs, in order of p.n.
-use Rattle.std.specs.Prelude.{◌≡◌, ℕ, ◌+◌, Bool, cond, not, ◌&&◌, List, [], ◌∷◌, ◌++◌, take, Some, None, filter, Option, ◌==◌}
-use Rattle.std.specs.List.{prefix_len}
+use Rattle.std.specs.Prelude.{◌≡◌, ℕ, ◌+◌, Bool, cond, not, ◌&&◌, List, [], ◌∷◌, ◌++◌, Some, None, filter, Option, ◌==◌}
 use Rattle.letters.specs.declared.job.Job.{Job}
 use Rattle.letters.specs.declared.job.Job.TheVariants.{Add, Strike}
 use Rattle.letters.specs.declared.letter.Letter.{Letter}
@@ -71,8 +70,4 @@ job_list_kind = record { places = 128; count = λ m. m.count; empty = no_jobs; e
 
 -- what a job list means: the rows in use
 abbrev pub listed_by : JobList → Listed
-listed_by s = record { count = s.entered; jobs = take s.len s.rows }
-
--- how many jobs stand above the first that is p.n, or all where there is none
-abbrev pub place_of : List OpenJob → ℕ → ℕ → ℕ
-place_of jobs p n = prefix_len (is_other p n) jobs
+listed_by s = record { count = s.entered; jobs = s.rows.items }

@@ -1,5 +1,6 @@
 -- Timelines: rows by rank and poster.
-use Rattle.std.specs.Prelude.{ℕ, ◌+◌, Bool, ◌&&◌, ◌||◌, List, [], take, sum, ◌==◌, nat_lt}
+use Rattle.std.specs.Prelude.{ℕ, ◌+◌, Bool, ◌&&◌, ◌||◌, List, [], sum, ◌==◌, nat_lt}
+use Rattle.arrayvec.specs.ArrayVec.{array_vec_len}
 use Rattle.letters.specs.declared.letter.Letter.{Letter}
 use Rattle.letters.specs.declared.text.Text.{Text}
 use Rattle.letters.specs.Letters.{number_of}
@@ -35,4 +36,4 @@ timeline_kind = record { places = 256; count = λ m. m.count; empty = no_rows; e
 
 -- what a timeline means: the rows in use
 abbrev pub shown_by : Timeline → Shown
-shown_by s = record { count = s.len; rows = take s.len s.rows }
+shown_by s = record { count = array_vec_len s.rows; rows = s.rows.items }

@@ -1,19 +1,19 @@
 // The job list.
-ghost use Rattle.std.specs.Prelude.{◌≡◌, ◌≤◌, true, length, take};
+ghost use Rattle.std.specs.Prelude.{◌≡◌, ◌≤◌, true};
+ghost use Rattle.arrayvec.specs.ArrayVec.{array_vec_len};
 ghost use Rattle.sheets.specs.OpenJobs.{rising};
 
 use crate::open_job::OpenJob;
+use arrayvec::ArrayVec;
 
 pub mod entering;
 
 // A sheet of jobs: those that are open, in order of p.n. A letter opens one job at most, so there is room for all.
 #[derive(Drop)]
 pub struct JobList {
-    rows: [OpenJob; 128],
-    len: usize,
+    rows: ArrayVec<OpenJob, 128>,
     entered: u32,
-    ghost sized: { length rows ≡ 128 },
-    ghost few: { len ≤ entered },
+    ghost few: { array_vec_len rows ≤ entered },
     ghost fit: { entered ≤ 128 },
-    ghost ordered: { rising (take len rows) ≡ true },
+    ghost ordered: { rising rows.items ≡ true },
 }

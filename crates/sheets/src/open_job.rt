@@ -1,7 +1,7 @@
 // A job that is open.
 
 // A job of a job list: the name p.n of the letter that opened it, and its code.
-#[derive(Clone, Copy)]
+#[derive(Clone, Copy, PartialEq, Eq, Default)]
 pub struct OpenJob {
     pub poster: u8,
     pub number: u16,

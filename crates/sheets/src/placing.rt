@@ -1,7 +1,9 @@
 // Rows that stand in an order, and how a new one goes in among them.
-ghost use Rattle.std.specs.Prelude.{◌≡◌, ◌+◌, ◌-◌, ◌<◌, ◌≤◌, Bool, length, take};
-ghost use Rattle.std.specs.List.{insert, remove};
+ghost use Rattle.std.specs.Prelude.{◌≡◌, ◌+◌, ◌<◌, ◌≤◌, Bool, length};
+ghost use Rattle.arrayvec.specs.ArrayVec.{array_vec_len};
 ghost use Rattle.sheets.specs.Placing.{place_among, placed};
+
+use arrayvec::ArrayVec;
 
 // A type of rows that have an order.
 pub(crate) trait Placed: Copy {
@@ -17,36 +19,17 @@ fn place_for<T: Placed>(rows: &[T], new: &T) -> usize
     ensures place { result ≡ place_among T.Placed.after rows.now new.now }
     ensures within { result ≤ length rows.now }
 {
-    for (i, row) in rows.iter().enumerate() {
-        if row.is_after(new) {
-            return i;
-        }
-    }
-    rows.len()
+    rows.iter()
+        .position(|row| row.is_after(new))
+        .unwrap_or(rows.len())
 }
 
-// Puts a row at a place among the first `len`, which are then one more.
-fn insert_at<T: Copy>(rows: &mut [T], len: usize, at: usize, new: T)
-    requires { (at ≤ len) × (len < length rows.old) }
-    ensures { take (len + 1) rows.new ≡ insert (take len rows.old) at new }
+// Puts a row where it belongs.
+pub(crate) fn insert<T: Placed, const N: usize>(rows: &mut ArrayVec<T, N>, new: T)
+    requires { array_vec_len rows.old < N }
+    ensures rows { rows.new.items ≡ placed T.Placed.after rows.old.items new }
+    ensures len { array_vec_len rows.new ≡ array_vec_len rows.old + 1 }
 {
-    rows[len] = new;
-    rows[at..len + 1].rotate_right(1);
-}
-
-// Puts a row where it belongs among the first `len`, which are then one more.
-pub(crate) fn insert<T: Placed>(rows: &mut [T], len: usize, new: T)
-    requires { len < length rows.old }
-    ensures { take (len + 1) rows.new ≡ placed T.Placed.after (take len rows.old) new }
-{
-    let at = place_for(&rows[0..len], &new);
-    insert_at(rows, len, at, new);
-}
-
-// Takes the row at a place out of the first `len`, which are then one less.
-pub(crate) fn remove<T: Copy>(rows: &mut [T], len: usize, at: usize)
-    requires { (at < len) × (len ≤ length rows.old) }
-    ensures { take (len - 1) rows.new ≡ remove (take len rows.old) at }
-{
-    rows[at..len].rotate_left(1);
+    let at = place_for(rows.as_slice(), &new);
+    rows.insert(at, new);
 }

@@ -52,31 +52,12 @@ pub fn draw_up<K: Sheet>(sheet: &mut K, log: &[Letter<K::Body>]) -> Result<(), R
     ensures untouched { K.Sheet.kind.places < length log.now → sheet.new ≡ sheet.old }
     ensures converges { Converges K.Sheet.kind }
 {
-    draw(sheet, log)
-}
-
-fn draw<K: Sheet>(sheet: &mut K, log: &[Letter<K::Body>]) -> Result<(), Refusal>
-    ensures answer { told (λ u. u) result ≡ answered (draw_up_outcome K.Sheet.kind log.now) }
-    ensures leaves { K.Sheet.meaning sheet.new ≡ left_by (draw_up_outcome K.Sheet.kind log.now) (K.Sheet.meaning sheet.old) }
-    ensures untouched { K.Sheet.kind.places < length log.now → sheet.new ≡ sheet.old }
-{
     if log.len() > K::capacity() as usize {
         return Err(Refusal::TooFewPlaces);
     }
     sheet.clear();
-    for i in 0..log.len() {
-        enter_next(sheet, log, i)?;
+    for letter in log {
+        sheet.enter(letter)?;
     }
     Ok(())
-}
-
-// Enters the letter at a place of the log, where those above it are entered.
-fn enter_next<K: Sheet>(sheet: &mut K, log: &[Letter<K::Body>], i: usize) -> Result<(), Refusal>
-    requires there { i < length log.now }
-    requires fits { length log.now ≤ K.Sheet.kind.places }
-    requires above { DrawnTo K.Sheet.kind log.now i (K.Sheet.meaning sheet.old) }
-    ensures answer { result ≡ Ok tt }
-    ensures leaves { DrawnTo K.Sheet.kind log.now (i + 1) (K.Sheet.meaning sheet.new) }
-{
-    sheet.enter(&log[i])
 }

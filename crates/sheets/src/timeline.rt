@@ -1,15 +1,15 @@
 // The timeline.
-ghost use Rattle.std.specs.Prelude.{◌≡◌, ◌≤◌, length};
+ghost use Rattle.std.specs.Prelude.{◌≤◌};
+ghost use Rattle.arrayvec.specs.ArrayVec.{array_vec_len};
 
 use crate::row::Row;
+use arrayvec::ArrayVec;
 
 pub mod entering;
 
 // A sheet of texts: a row for each letter, by rank and, where ranks are equal, by poster.
 #[derive(Drop)]
 pub struct Timeline {
-    rows: [Row; 256],
-    len: usize,
-    ghost sized: { length rows ≡ 256 },
-    ghost fit: { len ≤ 256 },
+    rows: ArrayVec<Row, 256>,
+    ghost fit: { array_vec_len rows ≤ 256 },
 }

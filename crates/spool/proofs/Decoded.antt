@@ -4,7 +4,8 @@ use Rattle.std.proofs.lemmas.List.{take_all}
 use Rattle.std.proofs.lemmas.Bool.{and_from, both_ways, eq-eqb, lt-ltb}
 use Rattle.letters.specs.declared.letter.Letter.{Letter}
 use Rattle.letters.specs.Forms.{Form, Lawful}
-use Rattle.letters.specs.Letters.{Parts, parts_of}
+use Rattle.letters.specs.declared.parts.Parts.{Parts}
+use Rattle.letters.specs.Letters.{parts_of}
 use Rattle.letters.specs.ChecksLemmas.{some_none}
 use Rattle.letters.specs.Same.{same_letter}
 use Rattle.records.specs.Reading.{Undoes, read_answer}

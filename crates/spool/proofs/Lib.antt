@@ -1,3 +1,4 @@
+pub mod Rows
 pub mod Decoded
 pub mod Kept
 pub mod Bits

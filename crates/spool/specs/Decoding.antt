@@ -3,7 +3,8 @@ use Rattle.std.specs.Prelude.{◌≡◌, ℕ, Bool, true, false, ◌&&◌, List,
 use Rattle.std.proofs.lemmas.Bool.{and_parts, eqb-true, ltb-true}
 use Rattle.letters.specs.declared.letter.Letter.{Letter}
 use Rattle.letters.specs.Forms.{Form}
-use Rattle.letters.specs.Letters.{Parts, entry_at}
+use Rattle.letters.specs.declared.parts.Parts.{Parts}
+use Rattle.letters.specs.Letters.{entry_at}
 use Rattle.records.specs.Records.{parts_written, wrong_byte}
 
 module _ {B : Type 0} where

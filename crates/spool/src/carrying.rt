@@ -1,6 +1,6 @@
 // Making a spool, and a spool as a carrier.
 ghost use Rattle.std.specs.Prelude.{◌≡◌, ◌<◌, true, length, Ok};
-ghost use Rattle.letters.specs.Letters.{parts, parts_of};
+ghost use Rattle.letters.specs.Letters.{parts_of};
 ghost use Rattle.letters.specs.Refusals.{told};
 ghost use Rattle.carriers.specs.Appending.{Appends};
 ghost use Rattle.carriers.specs.Meaning.{DrawLeaves, Drawn, Empty, Kept, PutLeaves, draw_answer, put_answer};
@@ -11,11 +11,11 @@ ghost use Rattle.spool.specs.Spools.{AddsRow, place_of, spool_of};
 use crate::Spool;
 use crate::masks::{all_but, is_done, marks};
 use crate::stored::Stored;
-use crate::tape::{ROW_SIZE, Tape};
+use crate::tape::{ROW_SIZE, Tape, mask_of};
 use carriers::carrier::Carrier;
 use letters::letter::Letter;
+use letters::parts::Parts;
 use letters::refusal::Refusal;
-use letters::stamp::Stamp;
 use std::marker::PhantomData;
 
 impl<'a, B: Stored> Spool<'a, B> {
@@ -56,10 +56,10 @@ impl<'a, B: Stored> Spool<'a, B> {
         ensures place { place_of B.form B.blank self.now seat result ≡ place }
     {
         let mut seen = 0;
-        for row in 0..self.rows {
-            if marks(self.tape.mask(row), seat) {
+        for (number, row) in self.tape.rows(self.rows).iter().enumerate() {
+            if marks(mask_of(row), seat) {
                 if seen == place {
-                    return row;
+                    return number;
                 }
                 seen += 1;
             }
@@ -100,8 +100,8 @@ impl<'a, B: Stored> Carrier for Spool<'a, B> {
             return 0;
         }
         let mut count: u32 = 0;
-        for row in 0..self.rows {
-            if marks(self.tape.mask(row), seat) {
+        for row in self.tape.rows(self.rows) {
+            if marks(mask_of(row), seat) {
                 count = count.saturating_add(1);
             }
         }
@@ -135,16 +135,9 @@ impl<'a, B: Stored> Carrier for Spool<'a, B> {
         Ok(())
     }
 
-    fn draw(
-        &mut self,
-        seat: u8,
-        place: u32,
-        stamp: &mut Stamp,
-        poster: &mut u8,
-        body: &mut B,
-    ) -> Result<(), Refusal>
+    fn draw(&mut self, seat: u8, place: u32, parts: &mut Parts<B>) -> Result<(), Refusal>
         ensures answer { told (λ u. u) result ≡ draw_answer (spool_of B.form B.blank self.old) seat place }
-        ensures leaves { DrawLeaves parts_of result (spool_of B.form B.blank self.old) seat place (spool_of B.form B.blank self.new) (parts stamp.old poster.old body.old) (parts stamp.new poster.new body.new) }
+        ensures leaves { DrawLeaves parts_of result (spool_of B.form B.blank self.old) seat place (spool_of B.form B.blank self.new) parts.old parts.new }
         ensures kept { Kept result self.old.tape.bytes.now self.new.tape.bytes.now }
     {
         if seat >= self.seats {
@@ -154,7 +147,7 @@ impl<'a, B: Stored> Carrier for Spool<'a, B> {
             return Err(Refusal::UnknownPlace);
         }
         let row = self.find(seat, place);
-        self.tape.read(row, stamp, poster, body);
+        self.tape.read(row, parts);
         self.strike(row, seat);
         Ok(())
     }

@@ -1,6 +1,7 @@
 // The lent buffer of a spool, row by row. It has no invariant of its own, so that parts of it can be lent on.
 ghost use Rattle.std.specs.Prelude.{◌≡◌, ℕ, ◌+◌, ◌*◌, ◌<◌, ◌≤◌, length};
-ghost use Rattle.letters.specs.Letters.{parts, parts_of};
+ghost use Rattle.std.specs.Simd.{first_chunks};
+ghost use Rattle.letters.specs.Letters.{parts_of};
 ghost use Rattle.carriers.specs.Places.{OnlyAt};
 ghost use Rattle.records.specs.Records.{record_of};
 ghost use Rattle.spool.specs.Decoding.{blank_letter, letter_of};
@@ -9,6 +10,7 @@ ghost use Rattle.spool.specs.Rows.{mask_of, record_part, row_at, row_size};
 use crate::stored::Stored;
 use letters::body::Body;
 use letters::letter::Letter;
+use letters::parts::Parts;
 use letters::stamp::Stamp;
 use records::record::{RECORD_SIZE, read_record, to_record};
 
@@ -20,7 +22,23 @@ pub(crate) struct Tape<'a> {
     pub(crate) bytes: &'a mut [u8],
 }
 
+// The mask of a row.
+pub(crate) fn mask_of(row: &[u8; ROW_SIZE]) -> u16
+    ensures { result ≡ mask_of row.now }
+{
+    u16::from_le_bytes([row[RECORD_SIZE], row[RECORD_SIZE + 1]])
+}
+
 impl<'a> Tape<'a> {
+    // The first rows.
+    pub(crate) fn rows(&self, count: usize) -> &[[u8; ROW_SIZE]]
+        requires { count * row_size ≤ length self.now.bytes.now }
+        ensures { result.now ≡ first_chunks row_size count self.now.bytes.now }
+    {
+        let (rows, _) = self.bytes.as_chunks();
+        &rows[..count]
+    }
+
     // A row's mask.
     pub(crate) fn mask(&self, row: usize) -> u16
         requires { row * row_size + row_size ≤ length self.now.bytes.now }
@@ -44,18 +62,12 @@ impl<'a> Tape<'a> {
     }
 
     // Fills the lent parts with those of a row's letter.
-    pub(crate) fn read<B: Stored>(
-        &self,
-        row: usize,
-        stamp: &mut Stamp,
-        poster: &mut u8,
-        body: &mut B,
-    )
+    pub(crate) fn read<B: Stored>(&self, row: usize, parts: &mut Parts<B>)
         requires { row * row_size + row_size ≤ length self.now.bytes.now }
-        ensures { parts stamp.new poster.new body.new ≡ parts_of (letter_of B.form B.blank (record_part (row_at self.now.bytes.now row))) }
+        ensures { parts.new ≡ parts_of (letter_of B.form B.blank (record_part (row_at self.now.bytes.now row))) }
     {
         let at = row * ROW_SIZE;
-        read_letter(&self.bytes[at..at + RECORD_SIZE], stamp, poster, body);
+        read_letter(&self.bytes[at..at + RECORD_SIZE], parts);
     }
 
     // Writes a letter's record into a row.
@@ -91,20 +103,23 @@ fn write_letter<B: Body>(letter: &Letter<B>, into: &mut [u8])
 }
 
 // Fills the lent parts with those of the letter that the bytes of a record stand for.
-fn read_letter<B: Stored>(bytes: &[u8], stamp: &mut Stamp, poster: &mut u8, body: &mut B)
+fn read_letter<B: Stored>(bytes: &[u8], parts: &mut Parts<B>)
     requires { length bytes.now ≡ 96 }
-    ensures { parts stamp.new poster.new body.new ≡ parts_of (letter_of B.form B.blank bytes.now) }
+    ensures { parts.new ≡ parts_of (letter_of B.form B.blank bytes.now) }
 {
-    match read_record(bytes, stamp, poster, body) {
+    match read_record(bytes, parts) {
         Ok(()) => {}
-        Err(_) => fill_blank(stamp, poster, body),
+        Err(_) => *parts = blank_parts(),
     }
 }
 
-fn fill_blank<B: Stored>(stamp: &mut Stamp, poster: &mut u8, body: &mut B)
-    ensures { parts stamp.new poster.new body.new ≡ parts_of (blank_letter B.blank) }
+// The parts of the letter that bytes stand for which are no record.
+fn blank_parts<B: Stored>() -> Parts<B>
+    ensures { result ≡ parts_of (blank_letter B.blank) }
 {
-    *stamp = Stamp { entries: [1; 16] };
-    *poster = 0;
-    *body = B::make_blank();
+    Parts {
+        stamp: Stamp { entries: [1; 16] },
+        poster: 0,
+        body: B::make_blank(),
+    }
 }

@@ -7,12 +7,13 @@ use carriers::carrier::Carrier;
 use carriers::lines::Lines;
 use letters::job::Job;
 use letters::letter::Letter;
+use letters::parts::Parts;
 use letters::refusal::Refusal;
 use letters::stamp::Stamp;
 use pair::Pair;
 use spool::Spool;
-use std::io;
 use std::io::Read;
+use std::{array, io};
 
 // How many letters and how many bytes there are to bring.
 const LETTERS: usize = 64;
@@ -58,12 +59,23 @@ struct Setting {
     bytes: usize,
 }
 
-// The parts of a letter, as a draw fills them.
-#[derive(Clone, Copy)]
-struct Page {
-    stamp: Stamp,
-    poster: u8,
-    body: Job,
+// Why the trial of a make ends before its steps are done: what is refused is printed, and the next make is tried.
+#[derive(Debug, Drop)]
+enum Stop {
+    Refused(Refusal),
+    Failed(io::Error),
+}
+
+impl From<Refusal> for Stop {
+    fn from(why: Refusal) -> Stop {
+        Stop::Refused(why)
+    }
+}
+
+impl From<io::Error> for Stop {
+    fn from(failure: io::Error) -> Stop {
+        Stop::Failed(failure)
+    }
 }
 
 // The setting that ten bytes write, numbers with the low byte first: the seats of the lines, those of the spool, how many
@@ -83,26 +95,24 @@ fn read_setting(head: &[u8]) -> Option<Setting> {
 
 // A letter whose stamp counts up from its number, seat by seat.
 fn make_letter(poster: u8, number: u16, code: u32) -> Result<Letter<Job>, Refusal> {
-    let mut entries = [number; 16];
-    for seat in 0..16 {
-        entries[seat] = number.wrapping_add(seat as u16);
-    }
+    let entries = array::from_fn(|seat| number.wrapping_add(seat as u16));
     Letter::new(Stamp { entries }, poster, Job::Add(code))
 }
 
-fn print_refusal(rt: &HostRuntime, why: Refusal) -> io::Result<()> {
-    let number = why.number();
-    println!(rt; "refused {number}")
+fn print_answer(rt: &HostRuntime, word: &str, answer: Result<(), Refusal>) -> io::Result<()> {
+    match answer {
+        Ok(()) => println!(rt; "{word}"),
+        Err(why) => println!(rt; "refused {why}"),
+    }
 }
 
-fn print_page(rt: &HostRuntime, page: &Page) -> io::Result<()> {
-    let poster = page.poster;
+fn print_parts(rt: &HostRuntime, parts: &Parts<Job>) -> io::Result<()> {
+    let poster = parts.poster;
     print!(rt; "page {poster}")?;
-    for seat in 0..16 {
-        let entry = page.stamp.entries[seat];
+    for entry in &parts.stamp.entries {
         print!(rt; " {entry}")?;
     }
-    match page.body {
+    match parts.body {
         Job::Add(code) => println!(rt; " add {code}"),
         Job::Strike(_) => println!(rt; " strike"),
     }
@@ -121,7 +131,7 @@ fn put<C: Carrier<Body = Job>>(
 fn take_step<C: Carrier<Body = Job>>(
     rt: &HostRuntime,
     carrier: &mut C,
-    page: &mut Page,
+    parts: &mut Parts<Job>,
     step: Step,
 ) -> io::Result<()> {
     match step {
@@ -129,22 +139,10 @@ fn take_step<C: Carrier<Body = Job>>(
             poster,
             number,
             code,
-        } => match put(carrier, poster, number, code) {
-            Ok(()) => println!(rt; "put"),
-            Err(why) => print_refusal(rt, why),
-        },
+        } => print_answer(rt, "put", put(carrier, poster, number, code)),
         Step::Draw { seat, place } => {
-            match carrier.draw(
-                seat,
-                place,
-                &mut page.stamp,
-                &mut page.poster,
-                &mut page.body,
-            ) {
-                Ok(()) => println!(rt; "drawn")?,
-                Err(why) => print_refusal(rt, why)?,
-            }
-            print_page(rt, page)
+            print_answer(rt, "drawn", carrier.draw(seat, place, parts))?;
+            print_parts(rt, parts)
         }
         Step::Waits { seat } => {
             let waits = carrier.waits(seat);
@@ -166,13 +164,13 @@ fn take_steps<C: Carrier<Body = Job>>(
     carrier: &mut C,
     steps: &[u8],
 ) -> io::Result<()> {
-    let mut page = Page {
+    let mut parts = Parts {
         stamp: Stamp { entries: [0; 16] },
         poster: 0,
         body: Job::Add(0),
     };
     for bytes in steps.chunks_exact(8) {
-        take_step(rt, carrier, &mut page, read_step(bytes))?;
+        take_step(rt, carrier, &mut parts, read_step(bytes))?;
     }
     Ok(())
 }
@@ -182,14 +180,11 @@ fn try_lines(
     setting: Setting,
     places: &mut [Letter<Job>],
     steps: &[u8],
-) -> io::Result<()> {
-    match Lines::check(places, setting.line_seats, setting.size) {
-        Ok(()) => {
-            let mut lines = Lines::new(places, setting.line_seats, setting.size);
-            take_steps(rt, &mut lines, steps)
-        }
-        Err(why) => print_refusal(rt, why),
-    }
+) -> Result<(), Stop> {
+    Lines::check(places, setting.line_seats, setting.size)?;
+    let mut lines = Lines::new(places, setting.line_seats, setting.size);
+    take_steps(rt, &mut lines, steps)?;
+    Ok(())
 }
 
 fn try_spool(
@@ -197,14 +192,11 @@ fn try_spool(
     setting: Setting,
     buffer: &mut [u8],
     steps: &[u8],
-) -> io::Result<()> {
-    match Spool::<Job>::check(buffer, setting.spool_seats) {
-        Ok(()) => {
-            let mut spool = Spool::<Job>::new(buffer, setting.spool_seats);
-            take_steps(rt, &mut spool, steps)
-        }
-        Err(why) => print_refusal(rt, why),
-    }
+) -> Result<(), Stop> {
+    Spool::<Job>::check(buffer, setting.spool_seats)?;
+    let mut spool = Spool::<Job>::new(buffer, setting.spool_seats);
+    take_steps(rt, &mut spool, steps)?;
+    Ok(())
 }
 
 fn try_pair<C: Carrier<Body = Job> + Drop, D: Carrier<Body = Job> + Drop>(
@@ -212,14 +204,11 @@ fn try_pair<C: Carrier<Body = Job> + Drop, D: Carrier<Body = Job> + Drop>(
     first: C,
     second: D,
     steps: &[u8],
-) -> io::Result<()> {
-    match Pair::check(&first, &second) {
-        Ok(()) => {
-            let mut pair = Pair::new(first, second);
-            take_steps(rt, &mut pair, steps)
-        }
-        Err(why) => print_refusal(rt, why),
-    }
+) -> Result<(), Stop> {
+    Pair::check(&first, &second)?;
+    let mut pair = Pair::new(first, second);
+    take_steps(rt, &mut pair, steps)?;
+    Ok(())
 }
 
 // A pair of lines, for cable, and a spool, for mobile data.
@@ -229,16 +218,21 @@ fn try_both(
     places: &mut [Letter<Job>],
     buffer: &mut [u8],
     steps: &[u8],
-) -> io::Result<()> {
-    if let Err(why) = Lines::check(places, setting.line_seats, setting.size) {
-        return print_refusal(rt, why);
-    }
-    if let Err(why) = Spool::<Job>::check(buffer, setting.spool_seats) {
-        return print_refusal(rt, why);
-    }
+) -> Result<(), Stop> {
+    Lines::check(places, setting.line_seats, setting.size)?;
+    Spool::<Job>::check(buffer, setting.spool_seats)?;
     let lines = Lines::new(places, setting.line_seats, setting.size);
     let spool = Spool::<Job>::new(buffer, setting.spool_seats);
     try_pair(rt, lines, spool, steps)
+}
+
+// Prints what a make was refused for; a failure to print ends the program.
+fn settle(rt: &HostRuntime, tried: Result<(), Stop>) -> io::Result<()> {
+    match tried {
+        Ok(()) => Ok(()),
+        Err(Stop::Refused(why)) => println!(rt; "refused {why}"),
+        Err(Stop::Failed(failure)) => Err(failure),
+    }
 }
 
 // How many letters are brought.
@@ -263,13 +257,15 @@ fn on_lines(
 ) -> io::Result<()> {
     println!(rt; "lines")?;
     let mut cable = [blank; LETTERS];
-    try_lines(rt, setting, &mut cable[0..letters_brought(setting)], steps)
+    let places = &mut cable[0..letters_brought(setting)];
+    settle(rt, try_lines(rt, setting, places, steps))
 }
 
 fn on_spool(rt: &HostRuntime, setting: Setting, steps: &[u8]) -> io::Result<()> {
     println!(rt; "spool")?;
     let mut mobile = [0; BYTES];
-    try_spool(rt, setting, &mut mobile[0..bytes_brought(setting)], steps)
+    let buffer = &mut mobile[0..bytes_brought(setting)];
+    settle(rt, try_spool(rt, setting, buffer, steps))
 }
 
 fn on_pair(rt: &HostRuntime, setting: Setting, blank: Letter<Job>, steps: &[u8]) -> io::Result<()> {
@@ -278,7 +274,7 @@ fn on_pair(rt: &HostRuntime, setting: Setting, blank: Letter<Job>, steps: &[u8])
     let mut mobile = [0; BYTES];
     let places = &mut cable[0..letters_brought(setting)];
     let buffer = &mut mobile[0..bytes_brought(setting)];
-    try_both(rt, setting, places, buffer, steps)
+    settle(rt, try_both(rt, setting, places, buffer, steps))
 }
 
 fn try_all(rt: &HostRuntime, setting: Setting, blank: Letter<Job>, steps: &[u8]) -> io::Result<()> {

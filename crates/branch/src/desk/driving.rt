@@ -29,7 +29,7 @@ impl<C: Carrier<Body = Job>> Desk<'_, C> {
     }
 
     fn post(&mut self, seat: u8, job: Job) -> Result<Outcome, Refusal>
-        ensures { Follows (docket_calls self.old.room.number (Post seat job) result) (standing C.Carrier.meaning self.old) (standing C.Carrier.meaning self.new) }
+        ensures { Follows (docket_calls (state self.old.room).number (Post seat job) result) (standing C.Carrier.meaning self.old) (standing C.Carrier.meaning self.new) }
     {
         let holds = &mut *self.holds;
         let docket = self.room.post(self.logs, holds, seat, job)?;
@@ -37,7 +37,7 @@ impl<C: Carrier<Body = Job>> Desk<'_, C> {
     }
 
     fn collect(&mut self, seat: u8) -> Result<Outcome, Refusal>
-        ensures { Follows (docket_calls self.old.room.number (Collect seat) result) (standing C.Carrier.meaning self.old) (standing C.Carrier.meaning self.new) }
+        ensures { Follows (docket_calls (state self.old.room).number (Collect seat) result) (standing C.Carrier.meaning self.old) (standing C.Carrier.meaning self.new) }
     {
         let docket = self.room.collect(seat)?;
         Ok(self.dispatch(docket))

@@ -1,6 +1,6 @@
 // Making lines, and lines as a carrier.
 ghost use Rattle.std.specs.Prelude.{◌≡◌, ℕ, ◌+◌, ◌<◌, [], ◌∷◌, ◌++◌, length, Ok, slice_index, slice_index_or, slice_set};
-ghost use Rattle.letters.specs.Letters.{parts, parts_of};
+ghost use Rattle.letters.specs.Letters.{parts_of};
 ghost use Rattle.letters.specs.Refusals.{told};
 ghost use Rattle.carriers.specs.Meaning.{DrawLeaves, Drawn, Empty, Kept, PutLeaves, draw_answer, put_answer};
 ghost use Rattle.carriers.specs.LineLaws.{lawful_lines};
@@ -9,11 +9,11 @@ ghost use Rattle.carriers.specs.Lines.{lines_answer, lines_of};
 
 use crate::carrier::Carrier;
 use crate::lines::Lines;
-use crate::rack::Rack;
+use crate::queue::{push_to, remove_from};
 use letters::body::Body;
 use letters::letter::Letter;
+use letters::parts::Parts;
 use letters::refusal::Refusal;
-use letters::stamp::Stamp;
 
 impl<'a, B: Body> Lines<'a, B> {
     // Whether lines for so many seats, each with a queue of so many places, can be made of the letters: 6, then 5.
@@ -35,14 +35,21 @@ impl<'a, B: Body> Lines<'a, B> {
         ensures seats { (lines_of result).seats ≡ seats }
         ensures size { result.size ≡ size }
         ensures empty { Empty (lines_of result) }
-        ensures table { result.rack.places.now ≡ places.old }
+        ensures table { result.places.now ≡ places.old }
     {
         Lines {
-            rack: Rack { places },
+            places,
             seats,
             size,
             counts: [0; 16],
         }
+    }
+
+    // How many letters wait in a seat's queue; past the sixteen none do.
+    fn queued(&self, seat: u8) -> u32
+        ensures { result ≡ slice_index self.now.counts seat }
+    {
+        self.counts.get(seat as usize).copied().unwrap_or(0)
     }
 
     // One letter more at the end of a seat's queue.
@@ -57,7 +64,8 @@ impl<'a, B: Body> Lines<'a, B> {
         let at = seat as usize;
         let count = self.counts[at];
         let size = self.size as usize;
-        self.rack.push(at * size, size, count, letter);
+        let start = at * size;
+        push_to(&mut self.places[start..start + size], count, letter);
         self.counts[at] = count + 1;
     }
 
@@ -71,19 +79,11 @@ impl<'a, B: Body> Lines<'a, B> {
         let at = seat as usize;
         let count = self.counts[at];
         let size = self.size as usize;
-        let letter = self.rack.remove(at * size, size, count, place);
+        let start = at * size;
+        let letter = remove_from(&mut self.places[start..start + size], count, place);
         self.counts[at] = count - 1;
         letter
     }
-}
-
-// Fills the lent parts with a letter's.
-fn hand_out<B: Copy>(letter: &Letter<B>, stamp: &mut Stamp, poster: &mut u8, body: &mut B)
-    ensures { parts stamp.new poster.new body.new ≡ parts_of letter.now }
-{
-    *stamp = *letter.stamp();
-    *poster = letter.poster();
-    *body = *letter.body();
 }
 
 impl<'a, B: Body> Carrier for Lines<'a, B> {
@@ -106,15 +106,8 @@ impl<'a, B: Body> Carrier for Lines<'a, B> {
     }
 
     fn fits(&self, poster: u8) -> bool {
-        if poster >= self.seats {
-            return false;
-        }
-        for seat in 0..self.seats {
-            if seat != poster && self.counts[seat as usize] >= self.size {
-                return false;
-            }
-        }
-        true
+        poster < self.seats
+            && (0..self.seats).all(|seat| seat == poster || self.queued(seat) < self.size)
     }
 
     fn put(&mut self, letter: &Letter<B>) -> Result<(), Refusal>
@@ -122,7 +115,7 @@ impl<'a, B: Body> Carrier for Lines<'a, B> {
         ensures leaves { PutLeaves result (lines_of self.old) letter.now.poster letter.now (lines_of self.new) }
         ensures exact { Appends result (lines_of self.old) letter.now.poster letter.now (lines_of self.new) }
         ensures size { self.new.size ≡ self.old.size }
-        ensures kept { Kept result self.old.rack.places.now self.new.rack.places.now }
+        ensures kept { Kept result self.old.places.now self.new.places.now }
     {
         let poster = letter.poster();
         if poster >= self.seats {
@@ -131,6 +124,7 @@ impl<'a, B: Body> Carrier for Lines<'a, B> {
         if !self.fits(poster) {
             return Err(Refusal::CarrierFull);
         }
+        // A seat's number is what each call takes; nothing is looked up by it here.
         for other in 0..self.seats {
             if other != poster {
                 self.append(other, letter);
@@ -139,18 +133,11 @@ impl<'a, B: Body> Carrier for Lines<'a, B> {
         Ok(())
     }
 
-    fn draw(
-        &mut self,
-        seat: u8,
-        place: u32,
-        stamp: &mut Stamp,
-        poster: &mut u8,
-        body: &mut B,
-    ) -> Result<(), Refusal>
+    fn draw(&mut self, seat: u8, place: u32, parts: &mut Parts<B>) -> Result<(), Refusal>
         ensures answer { told (λ u. u) result ≡ draw_answer (lines_of self.old) seat place }
-        ensures leaves { DrawLeaves parts_of result (lines_of self.old) seat place (lines_of self.new) (parts stamp.old poster.old body.old) (parts stamp.new poster.new body.new) }
+        ensures leaves { DrawLeaves parts_of result (lines_of self.old) seat place (lines_of self.new) parts.old parts.new }
         ensures size { self.new.size ≡ self.old.size }
-        ensures kept { Kept result self.old.rack.places.now self.new.rack.places.now }
+        ensures kept { Kept result self.old.places.now self.new.places.now }
     {
         if seat >= self.seats {
             return Err(Refusal::UnknownSeat);
@@ -158,8 +145,7 @@ impl<'a, B: Body> Carrier for Lines<'a, B> {
         if place >= self.counts[seat as usize] {
             return Err(Refusal::UnknownPlace);
         }
-        let letter = self.take(seat, place);
-        hand_out(&letter, stamp, poster, body);
+        *parts = self.take(seat, place).parts();
         Ok(())
     }
 }

@@ -1,5 +1,5 @@
 use Rattle.std.proofs.Common.{◌≡◌, length, ap, ◌∙◌}
-use Rattle.letters.specs.Letters.{parts, parts_of}
+use Rattle.letters.specs.Letters.{parts_of}
 use Rattle.carriers.specs.Lines.{lines_of}
 use Rattle.carriers.specs.LineLaws.{lawful_lines}
 use Rattle.delivery.specs.Passing.{and_then, delivery_answer, first_answer, parts_by}
@@ -12,7 +12,7 @@ returns g c =
     let x = c.args.letter.now in
     let seats = c.args.seats in
     let seat = c.args.seat in
-    let lent = parts c.args.stamp.now c.args.poster.now c.args.body.now in
+    let lent = c.args.parts.now in
     let ends = first_drawn (lines_of l) (lawful_lines l) c.new-lines.ensures.empty x seat lent _ _ _ c.put_and_draw.ensures in
     let same : first_answer l.seats x.poster seat ≡ delivery_answer seats c.args.size (length c.args.places.now) x.poster seat =
     ap (λ n. first_answer n x.poster seat) c.new-lines.ensures.seats ∙ ap (λ a. and_then a (first_answer seats x.poster seat)) c.in_ok-check.ensures in

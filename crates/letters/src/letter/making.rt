@@ -6,6 +6,7 @@ ghost use Rattle.letters.specs.Refusals.{told};
 
 use crate::letter::Letter;
 use crate::letter_id::LetterId;
+use crate::parts::Parts;
 use crate::refusal::Refusal;
 use crate::stamp::Stamp;
 
@@ -50,6 +51,17 @@ impl<B: Copy> Letter<B> {
     {
         stamp.check_poster(poster)?;
         Ok(Letter::make(stamp, poster, body))
+    }
+
+    // Its parts.
+    pub fn parts(&self) -> Parts<B>
+        ensures { result ≡ parts_of self.now }
+    {
+        Parts {
+            stamp: self.stamp,
+            poster: self.poster,
+            body: self.body,
+        }
     }
 
     pub fn stamp(&self) -> &Stamp

@@ -50,7 +50,7 @@ impl<B: Copy> Letter<B> {
     fn agrees(&self, other: &Letter<B>) -> bool
         ensures { result ≡ same_letter self.now other.now }
     {
-        self.poster == other.poster && self.number() == other.number()
+        self.id() == other.id()
     }
 
     // Whether the letter may be shown next at a seat with this clock, in a room of n seats with the quota q.
@@ -83,17 +83,12 @@ impl<B: Copy> Letter<B> {
     fn is_all_known(&self, clock: &Stamp) -> bool
         ensures { result ≡ all_known clock.now self.now }
     {
-        for p in 0..16 {
-            if p != self.poster as usize && self.stamp.entries[p] > clock.entries[p] {
-                return false;
-            }
-        }
-        true
+        (0..16).all(|p| p == self.poster || self.stamp.entry(p) <= clock.entry(p))
     }
 }
 
 fn is_next(number: u16, shown: u16) -> bool
     ensures { result ≡ (number == shown + 1) }
 {
-    number > shown && number - shown == 1
+    shown.checked_add(1) == Some(number)
 }

@@ -1,10 +1,11 @@
-// Making and reading names of letters.
-ghost use Rattle.std.specs.Prelude.{◌≡◌, ◌<◌};
-ghost use Rattle.letters.specs.Names.{name, name_answer, name_of};
+// Making, reading and writing names of letters.
+ghost use Rattle.std.specs.Prelude.{◌≡◌, ◌<◌, Some};
+ghost use Rattle.letters.specs.Names.{name, name_answer, name_of, name_text};
 ghost use Rattle.letters.specs.Refusals.{told};
 
 use crate::letter_id::LetterId;
 use crate::refusal::Refusal;
+use std::fmt;
 
 impl LetterId {
     // The name of a letter that can be; 20 where the poster is no seat or the number is 0.
@@ -35,5 +36,16 @@ impl LetterId {
         ensures { result ≡ self.now.number }
     {
         self.number
+    }
+}
+
+// Written 2.5: the poster, a point, the number.
+impl fmt::Display for LetterId {
+    ghost output = { λ id. Some (name_text id.poster id.number) };
+
+    fn fmt<W: fmt::Write>(&self, f: &mut fmt::Formatter<W>) -> fmt::Result {
+        let poster = self.poster;
+        let number = self.number;
+        write!(f, "{poster}.{number}")
     }
 }

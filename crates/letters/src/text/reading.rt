@@ -1,13 +1,13 @@
 // Texts as bodies of letters, and the making of a text of any bytes.
-ghost use Rattle.std.specs.Prelude.{◌≡◌, ◌≤◌, ◌++◌, length, drop, None};
+ghost use Rattle.std.specs.Prelude.{◌≡◌, ◌≤◌, not, ◌++◌, length, drop, None};
+ghost use Rattle.std.specs.List.{position};
 ghost use Rattle.letters.specs.Characters.{longest_text, printable, text_wrong};
-ghost use Rattle.letters.specs.Checks.{first_failing};
 ghost use Rattle.letters.specs.Numbers.{padded};
 ghost use Rattle.letters.specs.Refusals.{told};
 ghost use Rattle.letters.specs.Texts.{text_answer, text_bytes, text_form};
 ghost use Rattle.letters.specs.TextsLemmas.{text_lawful};
 
-use crate::body::{BODY_SPACE, Body};
+use crate::body::{BODY_SPACE, Body, padded};
 use crate::refusal::Refusal;
 use crate::text::{LONGEST_TEXT, Text};
 
@@ -27,10 +27,8 @@ impl Text {
         requires { text_wrong bytes.now ≡ None }
         ensures { text_bytes result ≡ bytes.now }
     {
-        let mut chars = [0; LONGEST_TEXT];
-        lay(&mut chars, bytes);
         Text {
-            chars,
+            chars: padded(bytes),
             len: bytes.len() as u8,
         }
     }
@@ -57,29 +55,15 @@ fn first_wrong(bytes: &[u8]) -> Option<u8>
     if bytes.len() > LONGEST_TEXT {
         return Some(LONGEST_TEXT as u8);
     }
-    unprintable(bytes)
+    let place = unprintable(bytes)?;
+    Some(place as u8)
 }
 
 // The first byte that is no printable character.
-fn unprintable(bytes: &[u8]) -> Option<u8>
-    requires { length bytes.now ≤ longest_text }
-    ensures { result ≡ first_failing printable 0 bytes.now }
+fn unprintable(bytes: &[u8]) -> Option<usize>
+    ensures { result ≡ position (λ b. not (printable b)) bytes.now }
 {
-    for place in 0..bytes.len() {
-        let b = bytes[place];
-        if b < 32 || b > 126 {
-            return Some(place as u8);
-        }
-    }
-    None
-}
-
-// Writes bytes over the front of others.
-fn lay(out: &mut [u8], bytes: &[u8])
-    requires { length bytes.now ≤ length out.old }
-    ensures { out.new ≡ bytes.now ++ drop (length bytes.now) out.old }
-{
-    out[0..bytes.len()].copy_from_slice(bytes);
+    bytes.iter().position(|b| !(32..=126).contains(b))
 }
 
 impl Body for Text {

@@ -1,13 +1,12 @@
 // What a reader of records does.
 ghost use Rattle.std.specs.Prelude.{◌≡◌};
-ghost use Rattle.letters.specs.Letters.{parts};
 ghost use Rattle.records.specs.Readers.{NextRead};
 
 use crate::fault::Fault;
 use crate::reader::Reader;
 use crate::record::{RECORD_SIZE, read_record};
 use letters::body::Body;
-use letters::stamp::Stamp;
+use letters::parts::Parts;
 use std::marker::PhantomData;
 
 impl<'a, B: Body> Reader<'a, B> {
@@ -24,34 +23,26 @@ impl<'a, B: Body> Reader<'a, B> {
     }
 
     // Fills the lent parts with those of the next letter and answers its record's index, or none at the end.
-    pub fn next(
-        &mut self,
-        stamp: &mut Stamp,
-        poster: &mut u8,
-        body: &mut B,
-    ) -> Result<Option<usize>, Fault>
-        ensures { NextRead B.form self.old self.new (parts stamp.old poster.old body.old) (parts stamp.new poster.new body.new) result }
+    pub fn next(&mut self, parts: &mut Parts<B>) -> Result<Option<usize>, Fault>
+        ensures { NextRead B.form self.old self.new parts.old parts.new result }
     {
-        self.read_next(stamp, poster, body)
+        self.read_next(parts)
     }
 
-    fn read_next(
-        &mut self,
-        stamp: &mut Stamp,
-        poster: &mut u8,
-        body: &mut B,
-    ) -> Result<Option<usize>, Fault>
-        ensures { NextRead B.form self.old self.new (parts stamp.old poster.old body.old) (parts stamp.new poster.new body.new) result }
+    fn read_next(&mut self, parts: &mut Parts<B>) -> Result<Option<usize>, Fault>
+        ensures { NextRead B.form self.old self.new parts.old parts.new result }
     {
         let at = RECORD_SIZE * self.index;
         let index = self.index;
         if self.bytes.len() - at == 0 {
             return Ok(None);
         }
-        if let Err(byte) = read_record(&self.bytes[at..self.bytes.len()], stamp, poster, body) {
-            return Err(Fault { index, byte });
+        match read_record(&self.bytes[at..], parts) {
+            Ok(()) => {
+                self.index = index + 1;
+                Ok(Some(index))
+            }
+            Err(byte) => Err(Fault { index, byte }),
         }
-        self.index = index + 1;
-        Ok(Some(index))
     }
 }

@@ -6,6 +6,7 @@ ghost use Rattle.rooms.specs.States.{state};
 
 use crate::draft::Draft;
 use crate::room::Room;
+use crate::terms::Terms;
 use carriers::carrier::Carrier;
 use letters::body::Body;
 use letters::letter::Letter;
@@ -28,10 +29,12 @@ impl Draft {
         ensures { draft_state result ≡ drafted number quota }
     {
         Draft {
-            number,
-            quota,
-            names: [0; 16],
-            count: 0,
+            terms: Terms {
+                number,
+                quota,
+                names: [0; 16],
+                count: 0,
+            },
         }
     }
 
@@ -41,11 +44,9 @@ impl Draft {
         ensures draft { draft_state self.new ≡ enrolled (draft_state self.old) (enrol_answer (draft_state self.old) name) name }
     {
         self.may_enrol(name)?;
-        let seat = self.count;
-        let mut names = self.names;
-        names[seat as usize] = name;
-        self.names = names;
-        self.count = seat + 1;
+        let seat = self.terms.count;
+        self.terms.names[seat as usize] = name;
+        self.terms.count = seat + 1;
         Ok(seat)
     }
 
@@ -56,7 +57,7 @@ impl Draft {
         if name == 0 || self.has(name) {
             return Err(Refusal::BadName);
         }
-        if self.count == 16 || (self.count as u32 + 1) * self.quota as u32 > 256 {
+        if self.terms.count == 16 || self.terms.places() + self.terms.quota > 256 {
             return Err(Refusal::TooManySeats);
         }
         Ok(())
@@ -64,14 +65,9 @@ impl Draft {
 
     // Whether a name is enrolled.
     fn has(&self, name: u32) -> bool
-        ensures { result ≡ has (take self.now.count self.now.names) name }
+        ensures { result ≡ has (take self.now.terms.count self.now.terms.names) name }
     {
-        for seat in 0..self.count as usize {
-            if self.names[seat] == name {
-                return true;
-            }
-        }
-        false
+        self.terms.names[..self.terms.count as usize].contains(&name)
     }
 
     // Whether the room may open with these letter tables and this carrier. Refused with 4, 5, 6, 7.
@@ -83,17 +79,17 @@ impl Draft {
     ) -> Result<(), Refusal>
         ensures { told (λ u. u) result ≡ open_check (draft_state self.now) (length logs.now) (length holds.now) (C.Carrier.meaning carrier.now) }
     {
-        if self.count == 0 {
+        if self.terms.count == 0 {
             return Err(Refusal::NoSeats);
         }
-        let places = self.count as usize * (self.count as usize * self.quota as usize);
+        let places = self.terms.count as usize * self.terms.places() as usize;
         if logs.len() < places || holds.len() < places {
             return Err(Refusal::TooShort);
         }
-        if carrier.seats() != self.count {
+        if carrier.seats() != self.terms.count {
             return Err(Refusal::WrongSeatCount);
         }
-        if !is_quiet(carrier, self.count) {
+        if !is_quiet(carrier, self.terms.count) {
             return Err(Refusal::LetterWaiting);
         }
         Ok(())
@@ -109,13 +105,8 @@ impl Draft {
         requires { open_check (draft_state self) (length logs.now) (length holds.now) (C.Carrier.meaning carrier.now) ≡ Ok tt }
         ensures { state result ≡ opened (draft_state self) }
     {
-        let Draft {
-            number,
-            quota,
-            names,
-            count,
-        } = self;
-        Room::fresh(number, quota, names, count)
+        let Draft { terms } = self;
+        Room::fresh(terms)
     }
 }
 
@@ -123,10 +114,5 @@ impl Draft {
 fn is_quiet<C: Carrier>(carrier: &C, count: u8) -> bool
     ensures { result ≡ quiet (C.Carrier.meaning carrier.now) count }
 {
-    for seat in 0..count {
-        if carrier.waits(seat) > 0 {
-            return false;
-        }
-    }
-    true
+    (0..count).all(|seat| carrier.waits(seat) == 0)
 }

@@ -6,8 +6,8 @@ ghost use Rattle.rooms.specs.States.{state};
 
 use crate::closed::ClosedRoom;
 use crate::room::Room;
+use causality::docket::DocketState;
 use letters::refusal::Refusal;
-use seats::seat::DocketEvent;
 
 impl Room {
     // Whether the room may close: 16 where a docket is out or parked.
@@ -32,12 +32,7 @@ impl Room {
     fn is_clear(&self) -> bool
         ensures { result ≡ all_clear (state self.now) }
     {
-        for s in 0..self.count as usize {
-            let mut seat = self.seats[s];
-            if !seat.move_docket(DocketEvent::Post) {
-                return false;
-            }
-        }
-        true
+        let seats = &self.seats[..self.terms.count as usize];
+        seats.iter().all(|seat| seat.docket == DocketState::Clear)
     }
 }

@@ -11,6 +11,7 @@ use crate::docket::{Docket, Returned};
 use crate::room::Room;
 use letters::refusal::Refusal;
 use seats::seat::DocketEvent;
+use seats::slip::Slip;
 
 impl Room {
     // Leaves the docket's letter for later. Refused with 12.
@@ -25,12 +26,7 @@ impl Room {
                 refusal: Refusal::WrongDocket,
             });
         }
-        let Docket {
-            room: _,
-            seat,
-            number: _,
-        } = docket;
-        self.note_docket(seat, DocketEvent::Park);
+        self.note_docket(docket.into_slip().seat, DocketEvent::Park);
         Ok(())
     }
 
@@ -39,25 +35,24 @@ impl Room {
         ensures answer { told slip result ≡ collect_answer (state self.old) seat }
         ensures room { state self.new ≡ docket_room (state self.old) seat Collect (collect_answer (state self.old) seat) }
     {
-        if seat >= self.count {
+        if seat >= self.terms.count {
             return Err(Refusal::UnknownSeat);
         }
         let mut poster = self.seats[seat as usize];
         if !poster.move_docket(DocketEvent::Collect) {
             return Err(Refusal::NotParked);
         }
-        let docket = self.newest(seat);
         self.note_docket(seat, DocketEvent::Collect);
-        Ok(docket)
+        Ok(Docket::of(self.newest(seat)))
     }
 
-    // The docket of the newest letter that a seat posted.
-    pub(crate) fn newest(&self, seat: u8) -> Docket
-        requires { seat < self.now.count }
-        ensures { slip result ≡ slip_of (state self.now) seat }
+    // What the docket of the newest letter that a seat posted says.
+    pub(crate) fn newest(&self, seat: u8) -> Slip
+        requires { seat < self.now.terms.count }
+        ensures { result ≡ slip_of (state self.now) seat }
     {
-        Docket {
-            room: self.number,
+        Slip {
+            room: self.terms.number,
             seat,
             number: self.seats[seat as usize].clock.entry(seat),
         }
@@ -67,16 +62,17 @@ impl Room {
     pub(crate) fn knows(&self, docket: &Docket) -> bool
         ensures { result ≡ good_slip (state self.now) (slip docket.now) }
     {
-        if docket.room != self.number || docket.seat >= self.count {
+        let slip = docket.slip();
+        if slip.seat >= self.terms.count {
             return false;
         }
-        let mut poster = self.seats[docket.seat as usize];
-        poster.move_docket(DocketEvent::Send) && docket.number == poster.clock.entry(docket.seat)
+        let mut poster = self.seats[slip.seat as usize];
+        poster.move_docket(DocketEvent::Send) && slip == self.newest(slip.seat)
     }
 
     // Tells a seat what happens to its docket.
     pub(crate) fn note_docket(&mut self, seat: u8, event: DocketEvent)
-        requires { seat < self.old.count }
+        requires { seat < self.old.terms.count }
         ensures { state self.new ≡ with_seat (state self.old) seat (docketed (seat_at (state self.old) seat) event) }
     {
         let mut poster = self.seats[seat as usize];

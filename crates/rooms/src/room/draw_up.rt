@@ -29,7 +29,7 @@ impl Room {
         ensures keeps { AlwaysKeeps K.Sheet.kind }
     {
         self.may_visit(logs.len(), holds.len(), seat)?;
-        if K::capacity() < self.count as u32 * self.quota as u32 {
+        if K::capacity() < self.terms.places() as u32 {
             return Err(Refusal::TooFewPlaces);
         }
         draw_up(sheet, self.log_part(logs, seat))

@@ -36,7 +36,7 @@ impl Room {
 
     // Writes the letter down that a seat posts, and answers its docket.
     fn write_post<B: Body>(&mut self, logs: &mut [Letter<B>], seat: u8, body: B) -> Docket
-        requires { (seat < self.old.count) × (clock_at (seat_at (state self.old) seat) seat < self.old.quota) }
+        requires { (seat < self.old.terms.count) × (clock_at (seat_at (state self.old) seat) seat < self.old.terms.quota) }
         ensures docket { slip result ≡ slip_of (posted_room (state self.old) seat) seat }
         ensures room { state self.new ≡ posted_room (state self.old) seat }
         ensures logs { Posted (state self.old) seat body logs.old logs.new }
@@ -44,7 +44,7 @@ impl Room {
         let foot = self.foot(seat);
         let stamp = self.note_post(seat);
         put(logs, foot, Letter::make(stamp, seat, body));
-        self.newest(seat)
+        Docket::of(self.newest(seat))
     }
 
     // Whether the seat may post.
@@ -56,7 +56,7 @@ impl Room {
         if !poster.move_docket(DocketEvent::Post) {
             return Err(Refusal::DocketTaken);
         }
-        if !poster.raise(seat, self.quota) {
+        if !poster.raise(seat, self.terms.quota) {
             return Err(Refusal::QuotaSpent);
         }
         Ok(())
@@ -64,13 +64,13 @@ impl Room {
 
     // Tells the seat that it posts, and answers its new clock.
     fn note_post(&mut self, seat: u8) -> Stamp
-        requires { (seat < self.old.count) × (clock_at (seat_at (state self.old) seat) seat < self.old.quota) }
+        requires { (seat < self.old.terms.count) × (clock_at (seat_at (state self.old) seat) seat < self.old.terms.quota) }
         ensures stamp { result ≡ (posted_seat (seat_at (state self.old) seat) seat).clock }
         ensures room { state self.new ≡ posted_room (state self.old) seat }
     {
         let mut poster = self.seats[seat as usize];
         let _ = poster.move_docket(DocketEvent::Post);
-        let _ = poster.raise(seat, self.quota);
+        let _ = poster.raise(seat, self.terms.quota);
         self.tell(seat, poster);
         poster.clock
     }

@@ -28,7 +28,7 @@ impl Room {
     pub fn pages(&self, seat: u8) -> Result<u32, Refusal>
         ensures { told (λ n. n) result ≡ pages_answer (state self.now) seat }
     {
-        if seat >= self.count {
+        if seat >= self.terms.count {
             return Err(Refusal::UnknownSeat);
         }
         let reader = self.seats[seat as usize];

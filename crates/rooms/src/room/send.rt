@@ -13,6 +13,7 @@ use letters::letter::Letter;
 use letters::refusal::Refusal;
 use seats::finding::find_named;
 use seats::seat::DocketEvent;
+use seats::slip::Slip;
 
 impl Room {
     // Puts the docket's letter, the first such in the seat's log, on the carrier. Refused with 5, 6, 12, 19, 11.
@@ -28,20 +29,28 @@ impl Room {
         ensures room { state self.new ≡ docket_room (state self.old) docket.seat Send (send_answer (state self.old) logs.now (length holds.now) (C.Carrier.meaning carrier.old) (slip docket)) }
         ensures carrier { PutOf (C.Carrier.meaning carrier.old) (send_letter (state self.old) logs.now (length holds.now) (C.Carrier.meaning carrier.old).seats (slip docket)) (send_answer (state self.old) logs.now (length holds.now) (C.Carrier.meaning carrier.old) (slip docket)) (C.Carrier.meaning carrier.new) }
     {
-        let letter = match self.letter_to_send(logs, holds.len(), carrier.seats(), &docket) {
-            Ok(letter) => letter,
-            Err(refusal) => return Err(Returned { docket, refusal }),
-        };
-        if let Err(refusal) = carrier.put(&letter) {
-            return Err(Returned { docket, refusal });
+        match self.put_letter(logs, holds, carrier, &docket) {
+            Ok(()) => {
+                self.note_docket(docket.into_slip().seat, DocketEvent::Send);
+                Ok(())
+            }
+            Err(refusal) => Err(Returned { docket, refusal }),
         }
-        let Docket {
-            room: _,
-            seat,
-            number: _,
-        } = docket;
-        self.note_docket(seat, DocketEvent::Send);
-        Ok(())
+    }
+
+    // Puts the letter that a docket is for on the carrier.
+    fn put_letter<B: Body, C: Carrier<Body = B>>(
+        &self,
+        logs: &[Letter<B>],
+        holds: &[Letter<B>],
+        carrier: &mut C,
+        docket: &Docket,
+    ) -> Result<(), Refusal>
+        ensures answer { told (λ u. u) result ≡ send_answer (state self.now) logs.now (length holds.now) (C.Carrier.meaning carrier.old) (slip docket.now) }
+        ensures carrier { PutOf (C.Carrier.meaning carrier.old) (send_letter (state self.now) logs.now (length holds.now) (C.Carrier.meaning carrier.old).seats (slip docket.now)) (send_answer (state self.now) logs.now (length holds.now) (C.Carrier.meaning carrier.old) (slip docket.now)) (C.Carrier.meaning carrier.new) }
+    {
+        let letter = self.letter_to_send(logs, holds.len(), carrier.seats(), docket)?;
+        carrier.put(&letter)
     }
 
     // The letter that a docket is for.
@@ -58,7 +67,8 @@ impl Room {
         if !self.knows(docket) {
             return Err(Refusal::WrongDocket);
         }
-        match find_named(self.log_part(logs, docket.seat), docket.seat, docket.number) {
+        let Slip { seat, number, .. } = docket.slip();
+        match find_named(self.log_part(logs, seat), seat, number) {
             Some((_, letter)) => Ok(letter),
             None => Err(Refusal::LetterMissing),
         }
@@ -71,7 +81,7 @@ impl Room {
         if !self.suffice(logs, holds) {
             return Err(Refusal::TooShort);
         }
-        if seats != self.count {
+        if seats != self.terms.count {
             return Err(Refusal::WrongSeatCount);
         }
         Ok(())

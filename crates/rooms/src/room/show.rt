@@ -62,17 +62,23 @@ impl Room {
 
     // The first ready letter of the seat's hold, with its place there.
     fn find_ready<B: Body>(&self, holds: &[Letter<B>], seat: u8) -> Option<(usize, Letter<B>)>
-        requires { seat < self.now.count }
+        requires { seat < self.now.terms.count }
         ensures { result ≡ first_ready (state self.now) holds.now seat }
     {
         let viewer = self.seats[seat as usize];
         let hold = self.hold_part(holds, seat);
-        first_ready(hold, self.count, self.quota, seat, &viewer.clock)
+        first_ready(
+            hold,
+            self.terms.count,
+            self.terms.quota,
+            seat,
+            &viewer.clock,
+        )
     }
 
     // Tells the seat that it shows a letter of its hold.
     fn note_show<B: Body>(&mut self, seat: u8, letter: &Letter<B>)
-        requires { (seat < self.old.count) × ((letter.now.poster < self.old.count) × (number_of letter.now ≤ self.old.quota)) }
+        requires { (seat < self.old.terms.count) × ((letter.now.poster < self.old.terms.count) × (number_of letter.now ≤ self.old.terms.quota)) }
         ensures { state self.new ≡ with_seat (state self.old) seat (shown_seat (seat_at (state self.old) seat) letter.now) }
     {
         let mut viewer = self.seats[seat as usize];

@@ -8,6 +8,7 @@ ghost use Rattle.seats.specs.Seats.{fresh};
 ghost use Rattle.rooms.specs.States.{state};
 
 use crate::room::Room;
+use crate::terms::Terms;
 use causality::docket::DocketState;
 use letters::body::Body;
 use letters::letter::Letter;
@@ -18,10 +19,9 @@ use seats::seat::Seat;
 
 impl Room {
     // A room in which nothing has happened.
-    pub(crate) fn fresh(number: u32, quota: u16, names: [u32; 16], count: u8) -> Room
-        requires few { (1 ≤ count) × (count ≤ 16) }
-        requires small { (1 ≤ quota) × (count * quota ≤ 256) }
-        ensures { state result ≡ record { number = number; names = names; count = count; quota = quota; seats = replicate 16 fresh } }
+    pub(crate) fn fresh(terms: Terms) -> Room
+        requires { 1 ≤ terms.count }
+        ensures { state result ≡ record { number = terms.number; names = terms.names; count = terms.count; quota = terms.quota; seats = replicate 16 fresh } }
     {
         let nothing = Seat {
             clock: Stamp { entries: [0; 16] },
@@ -29,17 +29,14 @@ impl Room {
             docket: DocketState::Clear,
         };
         Room {
-            number,
-            names,
-            count,
-            quota,
+            terms,
             seats: [nothing; 16],
         }
     }
 
     // Writes the table of seats back with what one seat was told.
     pub(crate) fn tell(&mut self, s: u8, seat: Seat)
-        requires { (Kept self.old.count self.old.quota seat) × (s < 16) }
+        requires { (Kept self.old.terms.count self.old.terms.quota seat) × (s < 16) }
         ensures { state self.new ≡ with_seat (state self.old) s seat }
     {
         let mut seats = self.seats;
@@ -51,20 +48,20 @@ impl Room {
     pub(crate) fn start(&self, s: u8) -> usize
         ensures { result ≡ start (state self.now) s }
     {
-        s as usize * (self.count as usize * self.quota as usize)
+        s as usize * self.terms.places() as usize
     }
 
     // Whether both letter tables have a place for every letter of every seat.
     pub(crate) fn suffice(&self, logs: usize, holds: usize) -> bool
         ensures { result ≡ suffice (state self.now) logs holds }
     {
-        let whole = self.start(self.count);
+        let whole = self.start(self.terms.count);
         whole <= logs && whole <= holds
     }
 
     // The place after the last letter of a seat's log.
     pub(crate) fn foot(&self, s: u8) -> usize
-        requires { s < self.now.count }
+        requires { s < self.now.terms.count }
         ensures { result ≡ foot (state self.now) s }
     {
         let seat = self.seats[s as usize];
@@ -73,7 +70,7 @@ impl Room {
 
     // The letters of a seat's log.
     pub(crate) fn log_part<'t, B: Body>(&self, logs: &'t [Letter<B>], s: u8) -> &'t [Letter<B>]
-        requires { s < self.now.count }
+        requires { s < self.now.terms.count }
         ensures { result.now ≡ log_of (state self.now) logs.now s }
     {
         let seat = self.seats[s as usize];
@@ -82,7 +79,7 @@ impl Room {
 
     // The letters of a seat's hold, in order of arrival.
     pub(crate) fn hold_part<'t, B: Body>(&self, holds: &'t [Letter<B>], s: u8) -> &'t [Letter<B>]
-        requires { s < self.now.count }
+        requires { s < self.now.terms.count }
         ensures { result.now ≡ hold_of (state self.now) holds.now s }
     {
         let seat = self.seats[s as usize];
@@ -96,7 +93,7 @@ impl Room {
         if !self.suffice(logs, holds) {
             return Err(Refusal::TooShort);
         }
-        if seat >= self.count {
+        if seat >= self.terms.count {
             return Err(Refusal::UnknownSeat);
         }
         Ok(())

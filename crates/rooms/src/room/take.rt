@@ -13,6 +13,7 @@ use crate::room::Room;
 use carriers::carrier::Carrier;
 use letters::body::Body;
 use letters::letter::Letter;
+use letters::parts::Parts;
 use letters::refusal::Refusal;
 use seats::finding::find_named;
 use seats::parts::put;
@@ -28,10 +29,13 @@ fn draw_letter<B: Body, C: Carrier<Body = B>>(
     ensures answer { told (λ m. tt) result ≡ draw_answer (C.Carrier.meaning carrier.old) seat place }
     ensures leaves { Draws result (C.Carrier.meaning carrier.old) seat place (C.Carrier.meaning carrier.new) }
 {
-    let mut stamp = *spare.stamp();
-    let mut poster = spare.poster();
-    let mut body = *spare.body();
-    carrier.draw(seat, place, &mut stamp, &mut poster, &mut body)?;
+    let mut parts = spare.parts();
+    carrier.draw(seat, place, &mut parts)?;
+    let Parts {
+        stamp,
+        poster,
+        body,
+    } = parts;
     Ok(Letter::make(stamp, poster, body))
 }
 
@@ -60,7 +64,7 @@ impl Room {
         seat: u8,
         place: u32,
     ) -> Result<Taken, Refusal>
-        requires { (0 < length holds.old) × ((C.Carrier.meaning carrier.old).seats ≡ self.old.count) }
+        requires { (0 < length holds.old) × ((C.Carrier.meaning carrier.old).seats ≡ self.old.terms.count) }
         ensures { Take (draw_answer (C.Carrier.meaning carrier.old) seat place) (state self.old) holds.old (C.Carrier.meaning carrier.old) seat place (told taken_as result) (state self.new) holds.new (C.Carrier.meaning carrier.new) }
     {
         let spare = holds[0];
@@ -70,7 +74,7 @@ impl Room {
 
     // Keeps a letter that is drawn for a seat, or throws it away.
     fn keep<B: Body>(&mut self, holds: &mut [Letter<B>], seat: u8, letter: &Letter<B>) -> Taken
-        requires { seat < self.old.count }
+        requires { seat < self.old.terms.count }
         ensures answer { taken_as result ≡ (taking (state self.old) holds.old seat letter.now, letter_name letter.now) }
         ensures room { state self.new ≡ taken_room (state self.old) (taking (state self.old) holds.old seat letter.now) seat }
         ensures hold { holds.new ≡ taken_holds (state self.old) (taking (state self.old) holds.old seat letter.now) seat letter.now holds.old }
@@ -90,20 +94,20 @@ impl Room {
 
     // Whether the letter cannot be one for this seat, or the hold has no place for it.
     fn is_stray<B: Body>(&self, seat: u8, letter: &Letter<B>) -> bool
-        requires { seat < self.now.count }
+        requires { seat < self.now.terms.count }
         ensures { result ≡ is_stray (state self.now) seat letter.now }
     {
         let poster = letter.poster();
         let number = letter.number();
-        if poster >= self.count || poster == seat || number > self.quota {
+        if poster >= self.terms.count || poster == seat || number > self.terms.quota {
             return true;
         }
-        self.seats[seat as usize].held >= self.count as u16 * self.quota
+        self.seats[seat as usize].held >= self.terms.places()
     }
 
     // Whether the seat has shown the letter, or holds it.
     fn is_repeat<B: Body>(&self, holds: &[Letter<B>], seat: u8, letter: &Letter<B>) -> bool
-        requires { seat < self.now.count }
+        requires { seat < self.now.terms.count }
         ensures { result ≡ is_repeat (state self.now) holds.now seat letter.now }
     {
         let poster = letter.poster();
@@ -116,11 +120,11 @@ impl Room {
 
     // Tells the seat that it holds one letter more.
     fn note_take(&mut self, seat: u8)
-        requires { (seat < self.old.count) × ((seat_at (state self.old) seat).held < self.old.count * self.old.quota) }
+        requires { (seat < self.old.terms.count) × ((seat_at (state self.old) seat).held < self.old.terms.count * self.old.terms.quota) }
         ensures { state self.new ≡ with_seat (state self.old) seat (holding (seat_at (state self.old) seat)) }
     {
         let mut taker = self.seats[seat as usize];
-        let _ = taker.hold(self.count as u16 * self.quota);
+        let _ = taker.hold(self.terms.places());
         self.tell(seat, taker);
     }
 }

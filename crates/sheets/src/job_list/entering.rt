@@ -1,13 +1,15 @@
 // Which jobs a job list has open, and how letters are entered there.
 ghost use Rattle.std.specs.Prelude.{◌≡◌, ◌+◌, ◌<◌, ◌≤◌, true, length, refl};
-ghost use Rattle.sheets.specs.JobLists.{CodesFollow, Listed, code_in, job_list_kind, listed_by, no_jobs, place_of, with_job, without_job};
+ghost use Rattle.sheets.specs.JobLists.{CodesFollow, Listed, code_in, job_list_kind, listed_by, no_jobs, open_job, with_job, without_job};
+ghost use Rattle.arrayvec.specs.ArrayVec.{array_vec_len};
 ghost use Rattle.sheets.specs.OpenJobs.{job_after, job_is, rising};
 ghost use Rattle.sheets.specs.JobSwaps.{jobs_swap};
 
 use crate::job_list::JobList;
 use crate::open_job::OpenJob;
-use crate::placing::{Placed, insert, remove};
+use crate::placing::{Placed, insert};
 use crate::sheet::Sheet;
+use arrayvec::ArrayVec;
 use letters::body::Body as _;
 use letters::job::Job;
 use letters::letter::Letter;
@@ -18,44 +20,25 @@ impl Placed for OpenJob {
     ghost after = { job_after };
 
     fn is_after(&self, new: &OpenJob) -> bool {
-        self.poster > new.poster || (self.poster == new.poster && self.number > new.number)
+        (self.poster, self.number) > (new.poster, new.number)
     }
 }
 
 impl OpenJob {
-    // Whether this is the job p.n.
-    fn has_name(&self, poster: u8, number: u16) -> bool
-        ensures { result ≡ job_is self.now poster number }
+    // Whether the letter with this name opened the job.
+    fn is_of(&self, id: LetterId) -> bool
+        ensures { result ≡ job_is self.now id.poster id.number }
     {
-        self.poster == poster && self.number == number
+        self.poster == id.poster() && self.number == id.number()
     }
-}
-
-// The place of the job p.n, or the number of jobs where it is not among them.
-fn place(jobs: &[OpenJob], poster: u8, number: u16) -> usize
-    ensures place { result ≡ place_of jobs.now poster number }
-    ensures within { result ≤ length jobs.now }
-{
-    for (i, job) in jobs.iter().enumerate() {
-        if job.has_name(poster, number) {
-            return i;
-        }
-    }
-    jobs.len()
 }
 
 impl JobList {
     pub fn new() -> Self
         ensures { listed_by result ≡ no_jobs }
     {
-        let blank = OpenJob {
-            poster: 0,
-            number: 0,
-            code: 0,
-        };
         JobList {
-            rows: [blank; 128],
-            len: 0,
+            rows: ArrayVec::new(),
             entered: 0,
         }
     }
@@ -65,7 +48,7 @@ impl JobList {
         ensures jobs { result.now ≡ (listed_by self.now).jobs }
         ensures ordered { rising result.now ≡ true }
     {
-        &self.rows[0..self.len]
+        self.rows.as_slice()
     }
 
     // The code of a job, where it is open. The letters entered change it as their bodies say.
@@ -73,43 +56,34 @@ impl JobList {
         ensures answer { result ≡ code_in (listed_by self.now).jobs id.poster id.number }
         ensures follows { CodesFollow }
     {
-        self.find_code(id)
+        self.jobs()
+            .iter()
+            .find(|job| job.is_of(id))
+            .map(|job| job.code)
     }
 
-    fn find_code(&self, id: LetterId) -> Option<u32>
-        ensures { result ≡ code_in (listed_by self.now).jobs id.poster id.number }
-    {
-        let jobs = self.jobs();
-        let at = place(jobs, id.poster(), id.number());
-        if at < jobs.len() {
-            Some(jobs[at].code)
-        } else {
-            None
-        }
-    }
-
-    // Closes the job p.n, where it is open.
-    fn close(&mut self, poster: u8, number: u16)
+    // Closes the job of this letter, where it is open.
+    fn close(&mut self, id: LetterId)
         ensures counted { self.new.entered ≡ self.old.entered }
-        ensures shorter { self.new.len ≤ self.old.len }
-        ensures jobs { (listed_by self.new).jobs ≡ without_job (listed_by self.old).jobs poster number }
+        ensures shorter { array_vec_len self.new.rows ≤ array_vec_len self.old.rows }
+        ensures jobs { (listed_by self.new).jobs ≡ without_job (listed_by self.old).jobs id.poster id.number }
     {
-        let at = place(self.jobs(), poster, number);
-        if at < self.len {
-            remove(&mut self.rows, self.len, at);
-            self.len -= 1;
-        }
+        self.rows.retain(|job| !job.is_of(id));
     }
 
-    // Opens a job, which replaces one of the same name.
-    fn open(&mut self, job: OpenJob)
-        requires { self.old.len < self.old.entered }
+    // Opens a job of this letter, which replaces one that is open.
+    fn open(&mut self, id: LetterId, code: u32)
+        requires { array_vec_len self.old.rows < self.old.entered }
         ensures counted { self.new.entered ≡ self.old.entered }
-        ensures jobs { (listed_by self.new).jobs ≡ with_job (listed_by self.old).jobs job }
+        ensures jobs { (listed_by self.new).jobs ≡ with_job (listed_by self.old).jobs (open_job id.poster id.number code) }
     {
-        self.close(job.poster, job.number);
-        insert(&mut self.rows, self.len, job);
-        self.len += 1;
+        self.close(id);
+        let job = OpenJob {
+            poster: id.poster(),
+            number: id.number(),
+            code,
+        };
+        insert(&mut self.rows, job);
     }
 }
 
@@ -141,7 +115,7 @@ impl Sheet for JobList {
     }
 
     fn clear(&mut self) {
-        self.len = 0;
+        self.rows.clear();
         self.entered = 0;
     }
 
@@ -151,14 +125,10 @@ impl Sheet for JobList {
         }
         self.entered += 1;
         match letter.body() {
-            Job::Add(code) => self.open(OpenJob {
-                poster: letter.poster(),
-                number: letter.number(),
-                code: *code,
-            }),
+            Job::Add(code) => self.open(letter.id(), *code),
             Job::Strike(id) => {
                 if letter.covers(*id) {
-                    self.close(id.poster(), id.number());
+                    self.close(*id);
                 }
             }
         }

@@ -10,6 +10,7 @@ use crate::placing::{Placed, insert};
 use crate::row::Row;
 use crate::sheet::Sheet;
 use crate::timeline::Timeline;
+use arrayvec::ArrayVec;
 use letters::letter::Letter;
 use letters::refusal::Refusal;
 use letters::stamp::Stamp;
@@ -19,7 +20,7 @@ impl Placed for Row {
     ghost after = { row_after };
 
     fn is_after(&self, new: &Row) -> bool {
-        self.rank > new.rank || (self.rank == new.rank && self.poster > new.poster)
+        (self.rank, self.poster) > (new.rank, new.poster)
     }
 }
 
@@ -27,11 +28,7 @@ impl Placed for Row {
 fn rank(stamp: &Stamp) -> u32
     ensures { result ≡ sum stamp.now.entries }
 {
-    let mut total: u32 = 0;
-    for entry in &stamp.entries {
-        total += u32::from(*entry);
-    }
-    total
+    stamp.entries.iter().map(|entry| u32::from(*entry)).sum()
 }
 
 impl Row {
@@ -52,18 +49,8 @@ impl Timeline {
     pub fn new() -> Self
         ensures { shown_by result ≡ no_rows }
     {
-        let Ok(text) = Text::new(&[]) else {
-            unreachable()
-        };
-        let blank = Row {
-            rank: 0,
-            poster: 0,
-            number: 0,
-            text,
-        };
         Timeline {
-            rows: [blank; 256],
-            len: 0,
+            rows: ArrayVec::new(),
         }
     }
 
@@ -71,14 +58,14 @@ impl Timeline {
     pub fn rows(&self) -> &[Row]
         ensures { result.now ≡ (shown_by self.now).rows }
     {
-        &self.rows[0..self.len]
+        self.rows.as_slice()
     }
 
     // How many pages the rows take.
     pub fn pages(&self) -> u32
         ensures { result ≡ page_count (length (shown_by self.now).rows) }
     {
-        pages(self.len as u32)
+        pages(self.rows.len() as u32)
     }
 }
 
@@ -106,19 +93,18 @@ impl Sheet for Timeline {
     }
 
     fn letters(&self) -> u32 {
-        self.len as u32
+        self.rows.len() as u32
     }
 
     fn clear(&mut self) {
-        self.len = 0;
+        self.rows.clear();
     }
 
     fn enter(&mut self, letter: &Letter<Text>) -> Result<(), Refusal> {
-        if self.len == Self::PLACES as usize {
+        if self.rows.is_full() {
             return Err(Refusal::SheetFull);
         }
-        insert(&mut self.rows, self.len, Row::of(letter));
-        self.len += 1;
+        insert(&mut self.rows, Row::of(letter));
         Ok(())
     }
 }

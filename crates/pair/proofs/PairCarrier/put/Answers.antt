@@ -1,5 +1,4 @@
 use Rattle.std.proofs.Common.{◌≡◌, ◌<◌, true, sym, ap, ◌∙◌, arith}
-use Rattle.pair.specs.PairLaws.{equal_seats}
 use Rattle.pair.proofs.Pairs.{put_joined}
 use Rattle.pair.proofs.PairCarrier.put.Goals as goal
 
@@ -9,10 +8,10 @@ returns g c =
     let n = g.D.Carrier.meaning c.args.self.now.second in
     let p = c.poster-poster.result in
     let is : p ≡ c.args.letter.now.poster = c.poster-poster.ensures in
-    let level : m.seats ≡ n.seats = equal_seats m n _ c.is_level.ensures c.if-not-is_level.false in
+    let level : m.seats ≡ n.seats = c.args.self.now.level in
     let seated : p < m.seats = omega (arith, c.seats.ensures, c.if-poster-seats.false) in
-    let one = c.put-2.ensures in
-    let two = c.put-3.ensures in
+    let one = c.put.ensures in
+    let two = c.put-2.ensures in
     let fits₁ : m.fits c.args.letter.now.poster ≡ true = ap m.fits (sym is) ∙ sym c.fits.ensures ∙ c.if-not-fits.false in
     let fits₂ : n.fits c.args.letter.now.poster ≡ true = ap n.fits (sym is) ∙ sym c.fits-else-not-fits.ensures ∙ c.if-not-fits-2.false in
     let both = put_joined m n _ _ c.args.letter.now.poster c.args.letter.now _ _ level (omega arith) fits₁ fits₂ one.answer one.leaves two.answer two.leaves in

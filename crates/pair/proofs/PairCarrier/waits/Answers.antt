@@ -1,5 +1,4 @@
 use Rattle.std.proofs.Common.{◌∙◌}
-use Rattle.pair.specs.PairLaws.{equal_seats}
 use Rattle.pair.proofs.Pairs.{waits_joined}
 use Rattle.pair.proofs.PairCarrier.waits.Goals as goal
 
@@ -7,5 +6,5 @@ pub returns : goal.returns
 returns g c =
     let m = g.C.Carrier.meaning c.args.self.now.first in
     let n = g.D.Carrier.meaning c.args.self.now.second in
-    let level = equal_seats m n _ c.is_level.ensures c.if-not-is_level.false in
+    let level = c.args.self.now.level in
     c.saturating_add.ensures ∙ waits_joined m n c.args.seat _ _ level c.waits-ahead.ensures c.waits.ensures

@@ -1,24 +1,65 @@
-use Rattle.std.proofs.Common.{ℕ, ◌<◌, List, sym, ap, ◌∙◌, rules}
-use Rattle.records.specs.Files.{begun_records}
-use Rattle.records.specs.Records.{wrong_front}
+use Rattle.std.proofs.Common.{◌≡◌, ℕ, ◌+◌, ◌-◌, ◌*◌, ◌<◌, min, List, length, drop, Some, sym, ap, ◌∙◌, arith, rules, length-drop}
+use Rattle.std.proofs.lemmas.List.{drop-drop}
+use Rattle.std.specs.Slice.Iter.{chunks_rest}
+use Rattle.records.specs.Files.{begun_records, fault_among}
+use Rattle.records.specs.Readers.{left}
+use Rattle.records.specs.Records.{record_size, wrong_front}
 use Rattle.records.proofs.Faults.{among_right, among_wrong}
-use Rattle.records.proofs.Finding.{next_part}
+use Rattle.records.proofs.Filing.{chunk_first, chunk_front, chunk_rest}
 use Rattle.records.proofs.file.scan_faults.Goals as goal
 
-pub returns-in-Some : goal.returns-in-Some
-returns-in-Some g c =
+pub loop-index-init : goal.loop-index-init
+loop-index-init g c = (search rules, search rules, search rules, search rules, search rules)
+
+pub returns-in-Some-first_wrong : goal.returns-in-Some-first_wrong
+returns-in-Some-first_wrong g c =
     let form = g.B.Body.form in
     let bs : List ℕ = c.args.bytes.now in
-    let i : ℕ = c.loop-index.index in
-    let some : i < begun_records bs = search rules in
-    let wrong = sym (ap (wrong_front form) (next_part bs i)) ∙ sym c.in-Some.ensures in
-    sym (sym c.loop-index.invariant ∙ among_wrong form bs i (begun_records bs) some c.in-Some.byte wrong)
+    let steps = c.in-Some.ensures.steps in
+    let inv = c.loop-index.invariant in
+    let i : ℕ = c.loop-index.index-iterator.count in
+    let more = chunks_rest c.next.new.self.iter in
+    let piece = c.in-Some.record.now in
+    let is = sym inv.2 ∙ steps.0.1.0 in
+    let long = steps.0.1.1 ∙ ap (λ s. min s (length (chunks_rest c.loop-index.index-iterator.iter))) inv.3 ∙ ap (λ l. min record_size (length l)) inv.2 in
+    let some : i < begun_records bs = omega (arith, steps.0.1.2, ap length inv.2, length-drop (record_size * i) bs) in
+    let front = ap (wrong_front form) (chunk_front (left bs i) piece more is long) ∙ chunk_first form g.met.B.Body.lawful (left bs i) in
+    let byte : ℕ = c.in-Some-first_wrong.byte in
+    let wrong = sym front ∙ sym c.in-Some-first_wrong.ensures in
+    ap (λ n. Some (record { index = n; byte = byte })) steps.1
+    ∙ sym (sym inv.4 ∙ among_wrong form bs i (begun_records bs) some byte wrong)
 
 pub loop-index-preserved : goal.loop-index-preserved
 loop-index-preserved g c =
     let form = g.B.Body.form in
     let bs : List ℕ = c.args.bytes.now in
-    let i : ℕ = c.loop-index.index in
-    let some : i < begun_records bs = search rules in
-    let right = sym (ap (wrong_front form) (next_part bs i)) ∙ sym c.in_default.ensures in
-    sym (among_right form bs i (begun_records bs) some right) ∙ c.loop-index.invariant
+    let steps = c.in-Some.ensures.steps in
+    let inv = c.loop-index.invariant in
+    let i : ℕ = c.loop-index.index-iterator.count in
+    let more = chunks_rest c.next.new.self.iter in
+    let piece = c.in-Some.record.now in
+    let is = sym inv.2 ∙ steps.0.1.0 in
+    let long = steps.0.1.1 ∙ ap (λ s. min s (length (chunks_rest c.loop-index.index-iterator.iter))) inv.3 ∙ ap (λ l. min record_size (length l)) inv.2 in
+    let some : i < begun_records bs = omega (arith, steps.0.1.2, ap length inv.2, length-drop (record_size * i) bs) in
+    let front = ap (wrong_front form) (chunk_front (left bs i) piece more is long) ∙ chunk_first form g.met.B.Body.lawful (left bs i) in
+    let right = sym front ∙ sym c.in_default.ensures in
+    let size : record_size * (i + 1) ≡ record_size * i + record_size = omega arith in
+    let next : drop record_size (left bs i) ≡ left bs (i + 1) = drop-drop record_size (record_size * i) bs ∙ ap (λ n. drop n bs) (sym size) in
+    let count = steps.2 in (
+      search rules,
+      search rules,
+      chunk_rest (left bs i) piece more is long ∙ next ∙ ap (left bs) (sym count),
+      steps.0.0 ∙ inv.3,
+      ap (λ n. fault_among form bs n (begun_records bs - n)) count
+          ∙ sym (among_right form bs i (begun_records bs) some right) ∙ inv.4,
+    )
+
+pub returns : goal.returns
+returns g c =
+    let form = g.B.Body.form in
+    let bs : List ℕ = c.args.bytes.now in
+    let steps = c.in-None.ensures.steps in
+    let inv = c.loop-index.invariant in
+    let i : ℕ = c.loop-index.index-iterator.count in
+    let none : begun_records bs - i ≡ 0 = omega (arith, steps.0.1.0, ap length inv.2, length-drop (record_size * i) bs) in
+    sym (ap (fault_among form bs i) none) ∙ inv.4

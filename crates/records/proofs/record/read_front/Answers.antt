@@ -1,31 +1,31 @@
-use Rattle.std.proofs.Common.{ℕ, ◌<◌, ◌≤◌, List, length, take, sym, refl, ap, ◌∙◌, subst, arith}
-use Rattle.letters.specs.Letters.{parts}
+use Rattle.std.proofs.Common.{ℕ, ◌<◌, List, length, take, sym, refl, ap, ◌∙◌, subst}
 use Rattle.records.specs.Reading.{LeftBy, read_answer}
-use Rattle.records.specs.Records.{record_size}
+use Rattle.records.specs.Records.{record_size, wrong_byte}
 use Rattle.records.proofs.RoundTrip.{front_short, front_whole, left_exact, read_undoes}
 use Rattle.records.proofs.record.read_front.Goals as goal
 
-pub returns-then-bytes-lt-RECORD_SIZE : goal.returns-then-bytes-lt-RECORD_SIZE
-returns-then-bytes-lt-RECORD_SIZE g c =
+pub returns-in-None : goal.returns-in-None
+returns-in-None g c =
     let form = g.B.Body.form in
     let laws = g.met.B.Body.lawful in
     let bs : List ℕ = c.args.bytes.now in
-    let few : length bs < record_size = omega arith in
+    let few : length bs < record_size = c.in-None.ensures.cases in
     let short = front_short form laws bs few in
-    let old = parts c.args.stamp.now c.args.poster.now c.args.body.now in
+    let old = c.args.parts.now in
     let left = subst (LeftBy form (take record_size bs) old old) (sym short) refl in
     let is = ap read_answer (sym short) in
     record { answer = is; filled = left_exact form laws bs old old left; undoes = read_undoes form laws bs old old left _ is }
 
-pub returns : goal.returns
-returns g c =
+pub returns-in-Some : goal.returns-in-Some
+returns-in-Some g c =
     let form = g.B.Body.form in
     let laws = g.met.B.Body.lawful in
     let bs : List ℕ = c.args.bytes.now in
-    let long : record_size ≤ length bs = omega arith in
-    let whole = front_whole form laws bs long in
-    let old = parts c.args.stamp.now c.args.poster.now c.args.body.now in
-    let new = parts c.read_whole.new.stamp c.read_whole.new.poster c.read_whole.new.body in
-    let left = subst (LeftBy form (take record_size bs) old new) (sym whole) c.read_whole.ensures.left in
-    let is = c.read_whole.ensures.answer ∙ ap read_answer (sym whole) in
-    record { answer = is; filled = left_exact form laws bs old new left; undoes = read_undoes form laws bs old new left _ is }
+    let chunk = c.in-Some.ensures.cases in
+    let whole = ap (wrong_byte form) chunk.same ∙ sym (front_whole form laws bs chunk.enough) in
+    let old = c.args.parts.now in
+    let new = c.read_whole.new.parts in
+    let left = subst (λ r. LeftBy form r old new (wrong_byte form r)) chunk.same c.read_whole.ensures.left in
+    let exact = subst (LeftBy form (take record_size bs) old new) (sym (front_whole form laws bs chunk.enough)) left in
+    let is = c.read_whole.ensures.answer ∙ ap read_answer whole in
+    record { answer = is; filled = left_exact form laws bs old new exact; undoes = read_undoes form laws bs old new exact _ is }

@@ -1,4 +1,4 @@
-use Rattle.std.proofs.Common.{ℕ, List, refl, ap, ◌∙◌}
+use Rattle.std.proofs.Common.{rules, ℕ, List, refl, ap, ◌∙◌}
 use Rattle.letters.specs.Letters.{parts}
 use Rattle.records.specs.Records.{parts_record, poster_byte}
 use Rattle.records.proofs.RoundTrip.{made-check, read_back}
@@ -10,8 +10,8 @@ make-requires g c =
     let laws = g.met.B.Body.lawful in
     let bs : List ℕ = c.args.bytes.now in
     let new = parts c.read_stamp.result (poster_byte bs) c.read_body.result in
-    made-check form laws new bs c.requires.size c.requires.right
-    (read_back form laws new bs c.requires.size c.requires.right c.read_stamp.ensures refl c.read_body.ensures.kind c.read_body.ensures.bytes)
+    made-check form laws new bs (search rules) c.requires
+    (read_back form laws new bs (search rules) c.requires c.read_stamp.ensures refl c.read_body.ensures.kind c.read_body.ensures.bytes)
 
 pub returns : goal.returns
 returns g c =
@@ -19,4 +19,4 @@ returns g c =
     let bs : List ℕ = c.args.bytes.now in
     let new = parts c.read_stamp.result (poster_byte bs) c.read_body.result in
     ap (parts_record form) c.make.ensures
-    ∙ read_back form g.met.B.Body.lawful new bs c.requires.size c.requires.right c.read_stamp.ensures refl c.read_body.ensures.kind c.read_body.ensures.bytes
+    ∙ read_back form g.met.B.Body.lawful new bs (search rules) c.requires c.read_stamp.ensures refl c.read_body.ensures.kind c.read_body.ensures.bytes

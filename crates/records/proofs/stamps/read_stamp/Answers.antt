@@ -1,20 +1,12 @@
-use Rattle.std.proofs.Common.{◌≡◌, ℕ, ◌*◌, List, take, sym, ap, ◌∙◌, arith, rules}
-use Rattle.std.proofs.lemmas.List.{take_all}
-use Rattle.records.proofs.Entries.{written, written_set}
+use Rattle.std.proofs.Common.{◌*◌, rules, tests, arith}
+use Rattle.letters.specs.Numbers.{number_16}
+use Rattle.records.proofs.Entries.{written_all}
+use Rattle.records.proofs.Made.{made_at}
 use Rattle.records.proofs.stamps.read_stamp.Goals as goal
-
-pub loop-seat-preserved : goal.loop-seat-preserved
-loop-seat-preserved c =
-    let bs : List ℕ = c.args.bytes.now in
-    let k : ℕ = c.loop-seat.seat in (
-      search rules,
-      written_set bs c.loop-seat.entries k c.number_at.result (omega arith) (omega arith)
-          (omega (arith, c.type_inv.bytes (2 * k))) c.number_at.ensures c.loop-seat.invariant.1,
-    )
 
 pub returns : goal.returns
 returns c =
-    let entries : List ℕ = c.loop-seat.entries in
-    let sixteen : c.loop-seat.seat ≡ 16 = omega arith in
-    let all : take c.loop-seat.seat entries ≡ entries = take_all c.loop-seat.seat entries (omega arith) in
-    sym (ap written all) ∙ c.loop-seat.invariant.1 ∙ ap (λ k. take (2 * k) c.args.bytes.now) sixteen
+    let bs = c.args.bytes.now in
+    let made = c.from_fn.ensures.items in
+    written_all bs c.from_fn.result made.long c.requires (λ i. omega (arith, c.type_inv.bytes i))
+    (λ k h. made_at _ _ (λ k. number_16 (2 * k) bs) c.from_fn.result (λ x y q call. search (rules, tests)) 16 0 made.each k (search rules) (search rules))

@@ -1,28 +1,20 @@
-use Rattle.std.proofs.Common.{◌≡◌, ℕ, ◌+◌, ◌*◌, ◌/◌, ◌%◌, ◌<◌, List, length, get_or, take, sym, ap, ◌∙◌, arith, rules}
-use Rattle.std.proofs.lemmas.List.{take_all}
-use Rattle.records.proofs.Entries.{written, written_more, take_two_set}
+use Rattle.std.proofs.Common.{◌≡◌, ℕ, ◌/◌, ◌%◌, length, slice_index, sym, ◌∙◌, arith, rules, tests}
+use Rattle.std.proofs.lemmas.List.{same_lists}
+use Rattle.std.proofs.lemmas.Grind.{get_or_default_zero}
+use Rattle.letters.specs.Numbers.{bytes_of_16}
+use Rattle.records.proofs.Entries.{byte_written, length_written, written}
+use Rattle.records.proofs.Made.{made_at}
 use Rattle.records.proofs.stamps.write_stamp.Goals as goal
-
-pub loop-seat-preserved : goal.loop-seat-preserved
-loop-seat-preserved c =
-    let bs : List ℕ = c.loop-seat.bytes in
-    let k : ℕ = c.loop-seat.seat in
-    let entries : List ℕ = c.args.stamp.now.entries in
-    let entry : ℕ = get_or entries k 0 in
-    let fits : entry < 65536 = search rules in
-    let within : k < length entries = search rules in
-    let low : get_or c.to_le_bytes.result 0 0 ≡ entry % 256 = ap (λ r. get_or r 0 0) c.to_le_bytes.ensures in
-    let high : get_or c.to_le_bytes.result 1 0 ≡ entry / 256 = ap (λ r. get_or r 1 0) c.to_le_bytes.ensures ∙ (omega arith) in
-    let place : 2 * (k + 1) ≡ 2 * k + 1 + 1 = omega arith in
-    let two = take_two_set bs (2 * k) (get_or c.to_le_bytes.result 0 0) (get_or c.to_le_bytes.result 1 0) (omega arith) in
-    let more = written_more entries k within in
-    let before = c.loop-seat.invariant.1 in
-    (search rules, cc)
 
 pub returns : goal.returns
 returns c =
-    let bs : List ℕ = c.loop-seat.bytes in
-    let entries : List ℕ = c.args.stamp.now.entries in
-    let whole : take (2 * c.loop-seat.seat) bs ≡ bs = take_all (2 * c.loop-seat.seat) bs (omega arith) in
-    let all : take c.loop-seat.seat entries ≡ entries = take_all c.loop-seat.seat entries (search rules) in
-    sym whole ∙ c.loop-seat.invariant.1 ∙ ap written all
+    let entries = c.args.stamp.now.entries in
+    let made = c.from_fn.ensures.items in
+    let sixteen : length entries ≡ 16 = search rules in
+    let long = length_written entries in
+    let h : ℕ → ℕ = λ i. slice_index (bytes_of_16 (slice_index entries (i / 2))) (i % 2) in
+    let at = made_at _ _ h c.from_fn.result (λ x y q call. search (rules, tests)) 32 0 made.each in
+    same_lists c.from_fn.result (written entries) (omega (arith, made.long)) (λ k d lt.
+    get_or_default_zero c.from_fn.result k d lt ∙ at k (omega arith) (omega (arith, made.long))
+    ∙ sym (byte_written entries k (omega (arith, made.long)))
+    ∙ sym (get_or_default_zero (written entries) k d (omega (arith, made.long))))

@@ -6,9 +6,10 @@ use Rattle.rooms.proofs.run.step_all.Given as goal
 
 -- the steps so far are made and their replies written, and no reply past the last step is touched
 abbrev pub invariant-loop-i : goal.invariant-loop-i
-invariant-loop-i g l =
-    Leads (moment (state l.initial.room) l.initial.logs l.initial.holds (g.C.Carrier.meaning l.initial.carrier))
-    (traced answer_of [] (take l.i l.steps) (take l.i l.replies))
-    (moment (state l.room) l.logs l.holds (g.C.Carrier.meaning l.carrier))
-    × (drop (length l.steps) l.replies ≡ drop (length l.steps) l.initial.replies)
-    × (length l.replies ≡ length l.initial.replies)
+invariant-loop-i g l = record {
+  led : Leads (moment (state l.initial.room) l.initial.logs l.initial.holds (g.C.Carrier.meaning l.initial.carrier))
+      (traced answer_of [] (take l.i l.steps) (take l.i l.replies))
+      (moment (state l.room) l.logs l.holds (g.C.Carrier.meaning l.carrier));
+  rest : drop (length l.steps) l.replies ≡ drop (length l.steps) l.initial.replies;
+  long : length l.replies ≡ length l.initial.replies;
+}

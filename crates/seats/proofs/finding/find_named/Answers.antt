@@ -1,14 +1,18 @@
-use Rattle.std.proofs.Common.{sym}
-use Rattle.seats.proofs.Searches.{first_on, first_found, first_none}
+use Rattle.std.proofs.Common.{ℕ, sym, ◌∙◌, rules, tests}
+use Rattle.std.proofs.lemmas.Iterator.{YieldsList-from_slice}
+use Rattle.std.proofs.lemmas.Iterator.Consumers.{YieldsList-from_copied, YieldsList-from_enumerate}
+use Rattle.std.proofs.lemmas.Iterator.Search.{find_from_yields_List}
+use Rattle.std.proofs.lemmas.Iterator.Adapters.{option_map_id}
+use Rattle.letters.specs.declared.letter.Letter.{Letter}
+use Rattle.seats.specs.Outcomes.{is_called}
+use Rattle.seats.proofs.Searches.{first-find}
 use Rattle.seats.proofs.finding.find_named.Goals as goal
 
-pub returns-then-is_named : goal.returns-then-is_named
-returns-then-is_named g c =
-    first_found _ c.args.letters.now c.loop-at.at _ c.loop-at.invariant c.index-letters-at.result c.loop-at-test.true c.index-letters-at.is (sym c.if-is_named.ensures)
-
-pub loop-at-preserved : goal.loop-at-preserved
-loop-at-preserved g c =
-    first_on _ c.args.letters.now c.loop-at.at _ c.loop-at.invariant c.index-letters-at.result c.loop-at-test.true c.index-letters-at.is (sym c.if-is_named.ensures)
-
 pub returns : goal.returns
-returns g c = first_none _ c.args.letters.now c.loop-at.at _ c.loop-at.invariant c.loop-at-test.false
+returns g c =
+    let test = λ (e : ℕ × Letter g.row.B.Denot). is_called c.args.poster c.args.number e.1 in
+    sym (option_map_id c.find.result)
+    ∙ find_from_yields_List test _ _ c.find.result c.find.ensures.ran
+    (YieldsList-from_enumerate (YieldsList-from_copied (YieldsList-from_slice c.args.letters.now cc)) cc)
+    (λ x b q k. search (rules, tests))
+    ∙ sym (first-find _ 0 c.args.letters.now)

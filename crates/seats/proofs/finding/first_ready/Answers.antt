@@ -1,29 +1,44 @@
-use Rattle.std.proofs.Common.{sym, ap, ◌∙◌, arith}
+use Rattle.std.proofs.Common.{◌≡◌, ◌≤◌, [], ◌∷◌, length, sym, length-append, arith}
 use Rattle.letters.specs.Letters.{entry_at}
-use Rattle.seats.proofs.Searches.{first_on, first_found, first_none}
-use Rattle.seats.proofs.Readiness.{not_due, too_early, is_ready}
+use Rattle.seats.proofs.Searches.{first_on, first_found}
+use Rattle.seats.proofs.Readiness.{pair_turn, pairs_end, known_more, too_early, is_ready}
+use Rattle.seats.proofs.finding.first_ready.Goals.{else-other-poster-via-then-other-poster+else-stamped-shown, else-other-poster-via-else-other-poster}
 use Rattle.seats.proofs.finding.first_ready.Goals as goal
 
-pub arrivals-preserved-then-not-is_due : goal.arrivals-preserved-then-not-is_due
-arrivals-preserved-then-not-is_due g c =
+pub loop-other-preserved : goal.loop-other-preserved
+loop-other-preserved g c =
     let m = c.index-hold-at.result in
-    first_on _ c.args.hold.now c.arrivals.at _ c.arrivals.invariant m c.arrivals-test.true c.index-hold-at.is
-    (not_due c.args.count c.args.quota c.args.seat c.args.clock.now m (sym c.if-not-is_due.ensures))
+    let clock = c.args.clock.now in
+    let k = length c.loop-other.yielded in
+    let pair =
+    pair_turn m.stamp clock m.sized (omega arith) c.into_iter-other-iterator.result (cc) (cc) (cc)
+    c.loop-other.yielded c.loop-other.other-iterator c.loop-other.yielded_by c.next.result c.next.new.self c.next.ensures.steps _ c.in-Some.is in
+    let known : ¬ (k ≡ m.poster) → entry_at m.stamp k ≤ entry_at clock k =
+    λ other. elim c.else-other-poster.branch [
+      | else-other-poster-via-then-other-poster+else-stamped-shown w ↦ omega (arith, pair.stamped, pair.shown, w.if-stamped-shown.false)
+      | else-other-poster-via-else-other-poster w ↦ absurd (other (omega (arith, pair.seat, c.poster-poster.ensures, w.if-other-poster.false)))
+    ] in
+    λ p lt. known_more c.args.count c.args.quota c.args.seat clock m k c.loop-other.invariant known p
+    (omega (arith, lt, length-append c.loop-other.yielded ((c.in-Some.other, (c.in-Some.stamped, c.in-Some.shown)) ∷ [])))
 
 pub arrivals-preserved : goal.arrivals-preserved
 arrivals-preserved g c =
     let m = c.index-hold-at.result in
-    let stamped = c.entry-stamped.ensures ∙ ap (λ s. entry_at s c.loop-other.other) c.stamp.ensures in
+    let clock = c.args.clock.now in
+    let pair =
+    pair_turn m.stamp clock m.sized (omega arith) c.into_iter-other-iterator.result (cc) (cc) (cc)
+    c.loop-other.yielded c.loop-other.other-iterator c.loop-other.yielded_by c.next.result c.next.new.self c.next.ensures.steps _ c.in-Some.is in
     first_on _ c.args.hold.now c.arrivals.at _ c.arrivals.invariant m c.arrivals-test.true c.index-hold-at.is
-    (too_early c.args.count c.args.quota c.args.seat c.args.clock.now m c.loop-other.other
-    (λ e. omega (arith, e, c.poster-poster.ensures, c.if-other-poster.true)) (omega (arith, stamped, c.entry-shown.ensures, c.if-stamped-shown.true)))
+    (too_early c.args.count c.args.quota c.args.seat clock m (length c.loop-other.yielded)
+    (λ e. omega (arith, e, pair.seat, c.poster-poster.ensures, c.if-other-poster.true)) (omega (arith, pair.stamped, pair.shown, c.if-stamped-shown.true)))
 
 pub returns-in-arrivals : goal.returns-in-arrivals
 returns-in-arrivals g c =
     let m = c.index-hold-at.result in
+    let clock = c.args.clock.now in
+    let all : length c.loop-other.yielded ≡ 16 =
+    pairs_end m.stamp clock m.sized (omega arith) c.into_iter-other-iterator.result (cc) (cc) (cc)
+    c.loop-other.yielded c.loop-other.other-iterator c.loop-other.yielded_by c.next.result c.next.new.self c.next.ensures.steps c.in-None.is in
     first_found _ c.args.hold.now c.arrivals.at _ c.arrivals.invariant m c.arrivals-test.true c.index-hold-at.is
-    (is_ready c.args.count c.args.quota c.args.seat c.args.clock.now m (sym c.if-not-is_due.ensures)
+    (is_ready c.args.count c.args.quota c.args.seat clock m (sym c.if-not-is_due.ensures)
     (λ p lt. c.loop-other.invariant p (omega arith)))
-
-pub returns : goal.returns
-returns g c = first_none _ c.args.hold.now c.arrivals.at _ c.arrivals.invariant c.arrivals-test.false

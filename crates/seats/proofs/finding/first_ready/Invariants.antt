@@ -1,11 +1,11 @@
-use Rattle.std.proofs.Common.{◌≡◌, drop}
+use Rattle.std.proofs.Common.{◌≡◌, drop, length}
 use Rattle.letters.specs.Order.{ready}
 use Rattle.seats.specs.Outcomes.{first}
 use Rattle.seats.proofs.Readiness.{KnownBelow}
 use Rattle.seats.proofs.finding.first_ready.Given as goal
 
 abbrev pub invariant-loop-other : goal.invariant-loop-other
-invariant-loop-other g l = KnownBelow l.count l.quota l.seat l.clock l.letter l.other
+invariant-loop-other g l = KnownBelow l.count l.quota l.seat l.clock l.letter (length l.yielded)
 
 abbrev pub invariant-arrivals : goal.invariant-arrivals
 invariant-arrivals g l =

@@ -1,16 +1,14 @@
-use Rattle.std.proofs.Common.{◌≡◌, ◌-◌, take, sym, ap, ◌∙◌, arith}
+use Rattle.std.proofs.Common.{sym, ap, ◌∙◌}
 use Rattle.std.specs.List.{insert}
 use Rattle.sheets.specs.Placing.{place_among}
 use Rattle.sheets.proofs.Inserts.{placed_is}
 use Rattle.sheets.proofs.placing.insert.Goals as goal
 
-pub returns : goal.returns
-returns g c =
+pub returns-clause-rows : goal.returns-clause-rows
+returns-clause-rows g c =
     let after = g.T.Placed.after in
-    let rows = c.args.rows.now in
-    let len = c.args.len in
+    let rows = c.args.rows.now.items in
     let new = c.args.new in
-    let at = c.place_for-at.result in
-    let whole : len - 0 ≡ len = omega arith in
-    let place : at ≡ place_among after (take len rows) new = c.place_for-at.ensures.place ∙ ap (λ n. place_among after (take n rows) new) whole in
-    c.insert_at.ensures ∙ ap (λ n. insert (take len rows) n new) place ∙ sym (placed_is after (take len rows) new)
+    c.insert.ensures.items
+    ∙ ap (λ n. insert rows n new) (c.place_for-at.ensures.place ∙ ap (λ l. place_among after l new) c.as_slice.ensures.value)
+    ∙ sym (placed_is after rows new)

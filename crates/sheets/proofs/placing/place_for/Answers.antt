@@ -1,23 +1,14 @@
-use Rattle.std.proofs.Common.{not, sym, ap, ◌∙◌, arith}
-use Rattle.sheets.specs.Placing.{stays}
-use Rattle.sheets.proofs.Scans.{scan_more, scan_stop, scan_all}
+use Rattle.std.proofs.Common.{◌≡◌, length, unwrap_or, ap, ◌∙◌, rules, tests}
+use Rattle.std.specs.List.{position}
+use Rattle.std.proofs.lemmas.Iterator.{YieldsList-from_slice}
+use Rattle.std.proofs.lemmas.Iterator.Search.{position_from_yields_List}
+use Rattle.sheets.proofs.Scans.{unwrap_or-position}
 use Rattle.sheets.proofs.placing.place_for.Goals as goal
 
-pub returns-then-is_after : goal.returns-then-is_after
-returns-then-is_after g c =
-    let ahead = stays g.T.Placed.after c.args.new.now in
-    let stops = ap ahead (sym c.index-rows-i.is) ∙ ap not (sym c.if-is_after.ensures) in
-    let place = scan_stop ahead c.args.rows.now c.loop-i.i c.index-rows-i.result c.loop-i-test.true stops c.loop-i.invariant in
-    record { place = place; within = omega arith }
-
-pub loop-i-preserved : goal.loop-i-preserved
-loop-i-preserved g c =
-    let ahead = stays g.T.Placed.after c.args.new.now in
-    let passes = ap ahead (sym c.index-rows-i.is) ∙ ap not (sym c.if-is_after.ensures) in
-    scan_more ahead c.args.rows.now c.loop-i.i c.index-rows-i.result c.loop-i-test.true passes c.loop-i.invariant
-
-pub returns : goal.returns
-returns g c =
-    let ahead = stays g.T.Placed.after c.args.new.now in
-    let place = scan_all ahead c.args.rows.now c.loop-i.i c.loop-i-test.false c.loop-i.auto.i-end c.loop-i.invariant in
-    record { place = place; within = omega arith }
+pub returns-clause-place : goal.returns-clause-place
+returns-clause-place g c =
+    let behind = λ (r : g.row.T.Denot). g.T.Placed.after r c.args.new.now in
+    let rows = c.args.rows.now in
+    let at : c.position.result ≡ position behind rows =
+    position_from_yields_List behind _ _ c.position.result c.position.ensures.ran (YieldsList-from_slice rows cc) (λ x b q k. search (rules, tests)) in
+    c.unwrap_or.ensures ∙ ap (λ o. unwrap_or o (length rows)) at ∙ unwrap_or-position behind rows

@@ -9,5 +9,5 @@ returns-in-Ok g c =
 
 pub returns-in-Err : goal.returns-in-Err
 returns-in-Err g c =
-    c.fill_blank.ensures
+    c.blank_parts.ensures
     ∙ sym (ap parts_of (letter_read_wrong g.B.Stored.blank g.B.Body.form g.met.B.Body.lawful c.args.bytes.now c.requires c.in-Err.field-0 c.in-Err.ensures.answer))

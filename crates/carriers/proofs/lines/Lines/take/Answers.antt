@@ -1,13 +1,14 @@
-use Rattle.std.proofs.Common.{◌*◌, ◌<◌, ◌≤◌, length, sym, refl, ◌∙◌, subst, arith, length-set}
+use Rattle.std.proofs.Common.{◌≡◌, ◌+◌, ◌*◌, ◌<◌, ◌≤◌, length, refl, ◌∙◌, arith, length-set, rules}
 use Rattle.carriers.specs.LineLaws.{queue_end}
 use Rattle.carriers.proofs.Counts.{within_set, beyond_set, other_waiting, own_waiting}
+use Rattle.carriers.proofs.Rows.{cut, only_part, read_in_part, taken_out}
 use Rattle.carriers.proofs.lines.Lines.take.Goals as goal
 
-pub remove-letter-requires : goal.remove-letter-requires
-remove-letter-requires g c =
+pub remove_from-letter-requires : goal.remove_from-letter-requires
+remove_from-letter-requires g c =
     let l = c.args.self.now in
     let end = queue_end l.size c.args.seat l.seats c.requires.0 in
-    (omega (arith, l.whole), (c.requires.1, l.within c.args.seat))
+    (c.requires.1, omega (arith, l.whole, l.within c.args.seat))
 
 pub invariant_of-self : goal.invariant_of-self
 invariant_of-self g c =
@@ -18,7 +19,7 @@ invariant_of-self g c =
       some = l.some;
       few = l.few;
       sized = l.sized;
-      whole = subst (λ n. l.seats * l.size ≤ n) (sym c.remove-letter.ensures.long) l.whole;
+      whole = search rules;
       within = within_set l.counts c.args.seat _ l.size (omega (arith, at_most)) l.within;
       beyond = beyond_set l.counts c.args.seat _ l.seats c.requires.0 l.beyond;
     }
@@ -26,15 +27,21 @@ invariant_of-self g c =
 pub returns : goal.returns
 returns g c =
     let l = c.args.self.now in
-    let row = l.rack.places.now in
-    let e = c.remove-letter.ensures in
+    let row = l.places.now in
+    let start = c.args.seat * l.size in
+    let fits : start + l.size ≤ length row = omega (arith, queue_end l.size c.args.seat l.seats c.requires.0, l.whole) in
+    let part = c.remove_from-letter.new.places in
+    let long : length part ≡ cut start l.size row fits = search rules in
+    let only = only_part start l.size row fits part long in
+    let e = c.remove_from-letter.ensures in
     let inside : c.args.seat < length l.counts = omega (arith, l.table, l.few, c.requires.0) in
     record {
       size = refl;
       lists = record {
         seats = refl;
-        own = own_waiting l.seats l.size l.counts row _ c.args.seat _ e.only inside ∙ e.letters;
-        others = λ k ne. other_waiting l.seats l.size l.counts row _ c.args.seat _ e.only k (l.within k) ne;
+        own = own_waiting l.seats l.size l.counts row _ c.args.seat _ only inside
+            ∙ taken_out start l.size row fits part long _ c.args.place (l.within c.args.seat) e.letters;
+        others = λ k ne. other_waiting l.seats l.size l.counts row _ c.args.seat _ only k (l.within k) ne;
       };
-      taken = e.taken;
+      taken = e.taken ∙ read_in_part start l.size row fits _ c.args.place _ c.requires.1 (l.within c.args.seat);
     }

@@ -2,7 +2,6 @@ use Rattle.std.proofs.Common.{◌≡◌, ℕ, List, length, take, drop, is_some,
 use Rattle.letters.specs.Characters.{longest_text, text_wrong}
 use Rattle.letters.specs.Numbers.{padded}
 use Rattle.letters.specs.Texts.{text_made, front}
-use Rattle.letters.specs.TextsLemmas.{laid}
 use Rattle.letters.proofs.text.Text.make.Goals as goal
 
 pub invariant_of-result : goal.invariant_of-result
@@ -11,7 +10,7 @@ invariant_of-result c =
     let bs : List ℕ = c.args.bytes.now in
     let n : ℕ = length bs in
     let m = text_made bs (ap is_some c.requires) in
-    let is : c.lay.new.out ≡ padded longest_text bs = c.lay.ensures ∙ laid bs in
+    let is : c.padded.result ≡ padded longest_text bs = c.padded.ensures in
     record {
       sized = ap length is ∙ m.sized;
       short = m.short;
@@ -22,4 +21,4 @@ invariant_of-result c =
 pub returns : goal.returns
 returns c =
     let bs : List ℕ = c.args.bytes.now in
-    ap (take (length bs)) (c.lay.ensures ∙ laid bs) ∙ front bs (ap is_some c.requires)
+    ap (take (length bs)) c.padded.ensures ∙ front bs (ap is_some c.requires)

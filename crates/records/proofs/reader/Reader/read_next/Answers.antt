@@ -1,6 +1,5 @@
 use Rattle.std.proofs.Common.{◌≡◌, ℕ, ◌*◌, ◌<◌, List, length, Some, None, Ok, Err, Option, Result, sym, refl, ap, ◌∙◌, arith}
 use Rattle.std.proofs.lemmas.List.{length-drop}
-use Rattle.letters.specs.Letters.{parts}
 use Rattle.records.specs.declared.fault.Fault.{Fault}
 use Rattle.records.specs.Reading.{parts_left, read_answer}
 use Rattle.records.specs.Readers.{ahead, next_answer, next_index, next_parts}
@@ -27,7 +26,7 @@ returns-then-self-at-eq0 g c =
     let bs : List ℕ = ahead c.args.self.now in
     let none : length bs ≡ 0 = length-drop (record_size * index) c.args.self.now.bytes.now ∙ c.if-self-at-eq0.true in
     let is = sym (found_end form bs none) in
-    let old = parts c.args.stamp.now c.args.poster.now c.args.body.now in
+    let old = c.args.parts.now in
     record {
       answer = ap (next_answer index) is;
       moved = ap (next_index index) is;
@@ -43,8 +42,8 @@ returns-in-Err g c =
     let bs : List ℕ = ahead c.args.self.now in
     let part = next_part c.args.self.now.bytes.now index in
     let some : 0 < length bs = omega (arith, length-drop (record_size * index) c.args.self.now.bytes.now) in
-    let old = parts c.args.stamp.now c.args.poster.now c.args.body.now in
-    let new = parts c.read_record.new.stamp c.read_record.new.poster c.read_record.new.body in
+    let old = c.args.parts.now in
+    let new = c.read_record.new.parts in
     let told = c.in-Err.ensures in
     let found = found_wrong form bs c.in-Err.byte old new some
     (told.answer ∙ ap (λ l. read_answer (wrong_front form l)) part)
@@ -57,16 +56,16 @@ returns-in-Err g c =
       undoes = undoes_as form g.met.B.Body.lawful _ bs new part (refused c.in-Err.byte) (λ e. absurd (never_wrong index _ e)) told.undoes;
     }
 
-pub returns : goal.returns
-returns g c =
+pub returns-in-Ok : goal.returns-in-Ok
+returns-in-Ok g c =
     let form = g.B.Body.form in
     let index : ℕ = c.args.self.now.index in
     let bs : List ℕ = ahead c.args.self.now in
     let part = next_part c.args.self.now.bytes.now index in
     let some : 0 < length bs = omega (arith, length-drop (record_size * index) c.args.self.now.bytes.now) in
-    let old = parts c.args.stamp.now c.args.poster.now c.args.body.now in
-    let new = parts c.read_record.new.stamp c.read_record.new.poster c.read_record.new.body in
-    let told = c.in_default.ensures in
+    let old = c.args.parts.now in
+    let new = c.read_record.new.parts in
+    let told = c.in-Ok.ensures in
     let found = found_right form bs old new some
     (told.answer ∙ ap (λ l. read_answer (wrong_front form l)) part)
     (told.filled ∙ ap (λ l. parts_left form l (wrong_front form l) old) part) in

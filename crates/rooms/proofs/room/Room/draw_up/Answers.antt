@@ -13,7 +13,7 @@ returns g c =
     let logs = c.args.logs.now in
     let log = c.log_part.result.now in
     let drew = c.draw_up.ensures in
-    let wide : r.count * r.quota ≤ kind.places = search rules in
+    let wide : r.terms.count * r.terms.quota ≤ kind.places = search rules in
     let up = goes_up kind (state r) (sound r) logs (length c.args.holds.now) c.args.seat log c.in_ok-may_visit.ensures wide c.log_part.ensures in
     record {
       answer = drew.answer ∙ ap answered up.same;
@@ -30,8 +30,8 @@ returns-in_err-may_visit g c = record {
   keeps = always_keeps g.K.Sheet.kind g.met.K.Sheet.lawful;
 }
 
-pub returns-then-capacity-self : goal.returns-then-capacity-self
-returns-then-capacity-self g c = record {
+pub returns-then-capacity-places : goal.returns-then-capacity-places
+returns-then-capacity-places g c = record {
   answer = search rules;
   leaves = search rules;
   untouched = search rules;

@@ -5,10 +5,7 @@ use Rattle.rooms.proofs.room.Room.fresh.Goals as goal
 pub invariant_of-result : goal.invariant_of-result
 invariant_of-result c =
     record {
-      some = c.requires.few.0;
-      few = c.requires.few.1;
-      quotaed = c.requires.small.0;
-      small = c.requires.small.1;
+      some = c.requires;
       table = refl;
       whole = fresh_whole;
       within = fresh_within _;

@@ -1,10 +1,15 @@
-use Rattle.std.proofs.Common.{sym, arith}
+use Rattle.std.proofs.Common.{◌∙◌, arith, rules, tests}
+use Rattle.std.proofs.lemmas.Iterator.{YieldsList-from_slice}
+use Rattle.std.proofs.lemmas.Iterator.Search.{all_from_yields_List}
+use Rattle.seats.specs.declared.seat.Seat.{Seat}
+use Rattle.seats.specs.declared.seat.DocketEvent.TheVariants.{Post}
+use Rattle.seats.specs.Seats.{allows}
 use Rattle.rooms.specs.States.{state}
-use Rattle.rooms.proofs.Closing.{decides_clear, not_clear}
+use Rattle.rooms.proofs.Closing.{clear_is}
 use Rattle.rooms.proofs.room.Room.is_clear.Goals as goal
 
-pub returns-then-not-move_docket : goal.returns-then-not-move_docket
-returns-then-not-move_docket c = not_clear (state c.args.self.now) c.loop-s.s c.loop-s-test.true c.if-not-move_docket.ensures.answer
-
 pub returns : goal.returns
-returns c = sym ((decides_clear (state c.args.self.now)).1 (λ s lt. c.loop-s.invariant s (omega arith)))
+returns c =
+    let room = c.args.self.now in
+    all_from_yields_List (λ (x : Seat). allows x.docket Post) _ _ _ c.all.ensures.ran (YieldsList-from_slice _ c.iter.ensures.rest) (λ x b q k. search (rules, tests))
+    ∙ clear_is (state room) (omega (arith, room.table, room.terms.few))

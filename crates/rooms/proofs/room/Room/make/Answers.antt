@@ -1,70 +1,75 @@
-use Rattle.std.proofs.Common.{ap}
-use Rattle.letters.specs.Names.{name_of}
-use Rattle.letters.specs.Refusals.{told}
-use Rattle.seats.specs.Outcomes.{taken_as}
-use Rattle.rooms.specs.Asked.{brought, move_of}
-use Rattle.rooms.specs.States.{slip, spent, state}
-use Rattle.rooms.proofs.Returning.{none_back, same_back}
-use Rattle.rooms.proofs.Stepping.{collect_makes, made_as, park_makes, post_makes, send_makes, show_makes, take_makes}
+use Rattle.std.proofs.Common.{Some, sym, refl, ap}
+use Rattle.lives.specs.Traces.{dockets, does, shows}
+use Rattle.rooms.specs.declared.asking.Answer.TheVariants as answers
+use Rattle.rooms.proofs.Stepping.{declined, made}
 use Rattle.rooms.proofs.room.Room.make.Goals as goal
 
-pub returns-in-Post : goal.returns-in-Post
-returns-in-Post g c =
-    let logs = c.args.logs.now in
-    let holds = c.args.holds.now in
-    let carrier = g.C.Carrier.meaning c.args.carrier.now in
-    let call = c.post.ensures in
-    let m = made_as _ _ _ _ _ _ (ap move_of c.in-Post.is) c.answer_docket.ensures.answer
-    (post_makes (state c.args.self.now) (state c.post.new.self) logs c.post.new.logs holds holds carrier carrier _ _ (told slip c.post.result) call.answer call.room call.logs) in
-    record { step = m.step; works = m.works; docket = none_back _ _ (ap brought c.in-Post.is) c.answer_docket.ensures.back }
+pub returns-in_ok-post-in-Post : goal.returns-in_ok-post-in-Post
+returns-in_ok-post-in-Post g c =
+    let call = c.in_ok-post-in-Post.ensures in
+    made _ _ _ _ (answers.Docket _) (sym c.in-Post.is)
+    (record { answers = ap dockets call.answer; room = call.room; logs = call.logs; holds = refl; carrier = refl })
 
-pub returns-in-Send : goal.returns-in-Send
-returns-in-Send g c =
-    let logs = c.args.logs.now in
-    let holds = c.args.holds.now in
-    let call = c.send.ensures in
-    let d = c.in-Send.docket in
-    let told = c.answer_spent.ensures in
-    let m = made_as _ _ _ _ _ _ (ap move_of c.in-Send.is) told.answer
-    (send_makes (state c.args.self.now) (state c.send.new.self) logs logs holds holds (g.C.Carrier.meaning c.args.carrier.now) (g.C.Carrier.meaning c.send.new.carrier) (slip d) (spent c.send.result) call.answer call.room call.carrier) in
-    record { step = m.step; works = m.works; docket = same_back _ d c.send.result _ (ap brought c.in-Send.is) call.docket told.answer told.back }
+pub returns-in_err-post-in-Post : goal.returns-in_err-post-in-Post
+returns-in_err-post-in-Post g c =
+    let call = c.in_err-post-in-Post.ensures in
+    declined _ _ _ _ _ _ (sym c.in-Post.is) c.from_residual.ensures.1
+    (record { answers = ap dockets call.answer; room = call.room; logs = call.logs; holds = refl; carrier = refl }) refl
 
-pub returns-in-Park : goal.returns-in-Park
-returns-in-Park g c =
-    let logs = c.args.logs.now in
-    let holds = c.args.holds.now in
-    let carrier = g.C.Carrier.meaning c.args.carrier.now in
-    let call = c.park.ensures in
-    let d = c.in-Park.docket in
-    let told = c.answer_spent-in-Park.ensures in
-    let m = made_as _ _ _ _ _ _ (ap move_of c.in-Park.is) told.answer
-    (park_makes (state c.args.self.now) (state c.park.new.self) logs logs holds holds carrier carrier (slip d) (spent c.park.result) call.answer call.room) in
-    record { step = m.step; works = m.works; docket = same_back _ d c.park.result _ (ap brought c.in-Park.is) call.docket told.answer told.back }
+pub returns-in_ok-send-in-Send : goal.returns-in_ok-send-in-Send
+returns-in_ok-send-in-Send g c =
+    let call = c.in_ok-send-in-Send.ensures in
+    made _ _ _ _ answers.Done (sym c.in-Send.is)
+    (record { answers = ap does call.answer; room = call.room; logs = refl; holds = refl; carrier = call.carrier })
 
-pub returns-in-Collect : goal.returns-in-Collect
-returns-in-Collect g c =
-    let logs = c.args.logs.now in
-    let holds = c.args.holds.now in
-    let carrier = g.C.Carrier.meaning c.args.carrier.now in
-    let call = c.collect.ensures in
-    let told' = c.answer_docket-in-Collect.ensures in
-    let m = made_as _ _ _ _ _ _ (ap move_of c.in-Collect.is) told'.answer
-    (collect_makes (state c.args.self.now) (state c.collect.new.self) logs logs holds holds carrier carrier _ (told slip c.collect.result) call.answer call.room) in
-    record { step = m.step; works = m.works; docket = none_back _ _ (ap brought c.in-Collect.is) told'.back }
+pub returns-in_err-send-in-Send : goal.returns-in_err-send-in-Send
+returns-in_err-send-in-Send g c =
+    let call = c.in_err-send-in-Send.ensures in
+    declined _ _ _ _ _ _ (sym c.in-Send.is) c.from_residual-in_err-send-in-Send.ensures.1
+    (record { answers = ap does call.answer; room = call.room; logs = refl; holds = refl; carrier = call.carrier }) (ap (λ d. Some d) call.docket)
 
-pub returns-in-Take : goal.returns-in-Take
-returns-in-Take g c =
-    let logs = c.args.logs.now in
-    let told' = c.answer_taken.ensures in
-    let m = made_as _ _ _ _ _ _ (ap move_of c.in-Take.is) told'.answer
-    (take_makes (state c.args.self.now) (state c.take.new.self) logs logs c.args.holds.now c.take.new.holds (g.C.Carrier.meaning c.args.carrier.now) (g.C.Carrier.meaning c.take.new.carrier) _ _ (told taken_as c.take.result) c.take.ensures) in
-    record { step = m.step; works = m.works; docket = none_back _ _ (ap brought c.in-Take.is) told'.back }
+pub returns-in_ok-park-in-Park : goal.returns-in_ok-park-in-Park
+returns-in_ok-park-in-Park g c =
+    let call = c.in_ok-park-in-Park.ensures in
+    made _ _ _ _ answers.Done (sym c.in-Park.is)
+    (record { answers = ap does call.answer; room = call.room; logs = refl; holds = refl; carrier = refl })
 
-pub returns-in-Show : goal.returns-in-Show
-returns-in-Show g c =
-    let carrier = g.C.Carrier.meaning c.args.carrier.now in
-    let call = c.show.ensures in
-    let told' = c.answer_shown.ensures in
-    let m = made_as _ _ _ _ _ _ (ap move_of c.in-Show.is) told'.answer
-    (show_makes (state c.args.self.now) (state c.show.new.self) c.args.logs.now c.show.new.logs c.args.holds.now c.show.new.holds carrier carrier _ (told name_of c.show.result) call.answer call.room call.logs call.holds) in
-    record { step = m.step; works = m.works; docket = none_back _ _ (ap brought c.in-Show.is) told'.back }
+pub returns-in_err-park-in-Park : goal.returns-in_err-park-in-Park
+returns-in_err-park-in-Park g c =
+    let call = c.in_err-park-in-Park.ensures in
+    declined _ _ _ _ _ _ (sym c.in-Park.is) c.from_residual-in_err-park-in-Park.ensures.1
+    (record { answers = ap does call.answer; room = call.room; logs = refl; holds = refl; carrier = refl }) (ap (λ d. Some d) call.docket)
+
+pub returns-in_ok-collect-in-Collect : goal.returns-in_ok-collect-in-Collect
+returns-in_ok-collect-in-Collect g c =
+    let call = c.in_ok-collect-in-Collect.ensures in
+    made _ _ _ _ (answers.Docket _) (sym c.in-Collect.is)
+    (record { answers = ap dockets call.answer; room = call.room; logs = refl; holds = refl; carrier = refl })
+
+pub returns-in_err-collect-in-Collect : goal.returns-in_err-collect-in-Collect
+returns-in_err-collect-in-Collect g c =
+    let call = c.in_err-collect-in-Collect.ensures in
+    declined _ _ _ _ _ _ (sym c.in-Collect.is) c.from_residual-in_err-collect-in-Collect.ensures.1
+    (record { answers = ap dockets call.answer; room = call.room; logs = refl; holds = refl; carrier = refl }) refl
+
+pub returns-in_ok-take-in-Take : goal.returns-in_ok-take-in-Take
+returns-in_ok-take-in-Take g c =
+    made _ _ _ _ (answers.Taken _) (sym c.in-Take.is)
+    (record { result = _; answers = refl; leaves = c.in_ok-take-in-Take.ensures; logs = refl })
+
+pub returns-in_err-take-in-Take : goal.returns-in_err-take-in-Take
+returns-in_err-take-in-Take g c =
+    declined _ _ _ _ _ _ (sym c.in-Take.is) c.from_residual-in_err-take-in-Take.ensures.1
+    (record { result = _; answers = refl; leaves = c.in_err-take-in-Take.ensures; logs = refl }) refl
+
+pub returns-in_ok-show-in-Show : goal.returns-in_ok-show-in-Show
+returns-in_ok-show-in-Show g c =
+    let call = c.in_ok-show-in-Show.ensures in
+    made _ _ _ _ (answers.Shown c.in_ok-show-in-Show.field-0) (sym c.in-Show.is)
+    (record { answers = ap shows call.answer; room = call.room; logs = call.logs; holds = call.holds; carrier = refl })
+
+pub returns-in_err-show-in-Show : goal.returns-in_err-show-in-Show
+returns-in_err-show-in-Show g c =
+    let call = c.in_err-show-in-Show.ensures in
+    declined _ _ _ _ _ _ (sym c.in-Show.is) c.from_residual-in_err-show-in-Show.ensures.1
+    (record { answers = ap shows call.answer; room = call.room; logs = call.logs; holds = call.holds; carrier = refl }) refl

@@ -18,4 +18,4 @@ tell-requires g c =
     ∙ ap released c.set_clock.ensures
     ∙ ap (λ n. released (clocked (seat_at (state r) s) c.poster.result n)) c.number.ensures
     ∙ ap (λ p. released (clocked (seat_at (state r) s) p (number_of m))) c.poster.ensures in
-    (subst (Kept r.count r.quota) (sym told) (shown_kept (state r) (sound r) s m c.requires.0 c.requires.1.0 c.requires.1.1), omega (arith, r.few))
+    (subst (Kept r.terms.count r.terms.quota) (sym told) (shown_kept (state r) (sound r) s m c.requires.0 c.requires.1.0 c.requires.1.1), omega (arith, r.terms.few))

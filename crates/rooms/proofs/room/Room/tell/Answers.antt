@@ -10,14 +10,11 @@ invariant_of-self c =
     let r = c.args.self.now in
     let told = c.requires.0 in
     let whole = set-each_below (λ x. length x.clock.entries ≡ 16) blank 16 r.seats c.args.s c.args.seat told.whole r.whole in
-    let within = set_each (Within r.quota) blank r.seats c.args.s c.args.seat told.within r.within in
-    let nobody = set_each (Nobody r.count) blank r.seats c.args.s c.args.seat told.nobody r.nobody in
-    let placed = set_each (λ x. x.held ≤ r.count * r.quota) blank r.seats c.args.s c.args.seat told.placed r.placed in
+    let within = set_each (Within r.terms.quota) blank r.seats c.args.s c.args.seat told.within r.within in
+    let nobody = set_each (Nobody r.terms.count) blank r.seats c.args.s c.args.seat told.nobody r.nobody in
+    let placed = set_each (λ x. x.held ≤ r.terms.count * r.terms.quota) blank r.seats c.args.s c.args.seat told.placed r.placed in
     record {
       some = r.some;
-      few = r.few;
-      quotaed = r.quotaed;
-      small = r.small;
       table = length-set r.seats c.args.s c.args.seat ∙ r.table;
       whole = whole;
       within = within;

@@ -9,7 +9,7 @@ returns g c =
     let m = c.make.result in
     let noted = c.note_post-stamp.ensures in
     record {
-      docket = c.newest.ensures ∙ ap (λ st. slip_of st s) noted.room;
+      docket = c.of.ensures ∙ c.newest.ensures ∙ ap (λ st. slip_of st s) noted.room;
       room = noted.room;
       logs = record {
         letter = m;

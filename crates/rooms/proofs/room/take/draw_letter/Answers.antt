@@ -1,4 +1,3 @@
-use Rattle.letters.specs.Letters.{parts}
 use Rattle.rooms.proofs.Taking.{drawn_can_be, drawn_is}
 use Rattle.rooms.proofs.room.take.draw_letter.Goals as goal
 
@@ -6,7 +5,7 @@ pub make-requires : goal.make-requires
 make-requires g c =
     let drew = c.in_ok-draw.ensures in
     drawn_can_be (g.C.Carrier.meaning c.args.carrier.now) c.args.seat c.args.place c.args.spare _
-    (parts c.draw.new.stamp c.draw.new.poster c.draw.new.body) drew.answer drew.leaves.1
+    c.draw.new.parts drew.answer drew.leaves.1
 
 pub returns : goal.returns
 returns g c =
@@ -16,6 +15,6 @@ returns g c =
       leaves = (
         drew.leaves.0,
         drawn_is (g.C.Carrier.meaning c.args.carrier.now) c.args.seat c.args.place c.args.spare _
-            (parts c.draw.new.stamp c.draw.new.poster c.draw.new.body) drew.answer drew.leaves.1 c.make.result c.make.ensures,
+            c.draw.new.parts drew.answer drew.leaves.1 c.make.result c.make.ensures,
       );
     }

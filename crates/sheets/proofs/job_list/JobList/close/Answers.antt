@@ -1,19 +1,17 @@
-use Rattle.std.proofs.Common.{refl, arith, rules}
-use Rattle.sheets.proofs.Jobs.{closing, not_open}
+use Rattle.std.proofs.Common.{ap, ◌∙◌, arith, rules}
+use Rattle.arrayvec.proofs.ArrayVecLemmas.{filter-from_retain}
+use Rattle.sheets.specs.JobLists.{is_other}
+use Rattle.sheets.specs.OpenJobs.{rising}
+use Rattle.sheets.proofs.Jobs.{rising_without}
 use Rattle.sheets.proofs.job_list.JobList.close.Goals as goal
 
 pub invariant_of-self : goal.invariant_of-self
 invariant_of-self c =
     let s = c.args.self.now in
-    let after = closing s c.args.poster c.args.number c.place-at.result (cc) (omega arith) _ c.remove.ensures in
-    record { sized = search rules; few = omega (arith, s.few); fit = s.fit; ordered = after.1 }
+    let id = c.args.id in
+    let kept = filter-from_retain _ (is_other id.poster id.number) _ (λ x b f' y called. search rules) _ _ c.retain.ensures.filtered in
+    record { few = omega (arith, c.retain.ensures.bound, s.few); fit = s.fit; ordered = ap rising kept ∙ rising_without s.rows.items id.poster id.number s.ordered }
 
-pub returns-then-at-self : goal.returns-then-at-self
-returns-then-at-self c =
-    let after = closing c.args.self.now c.args.poster c.args.number c.place-at.result (cc) (omega arith) _ c.remove.ensures in
-    record { counted = refl; shorter = omega arith; jobs = after.0 }
-
-pub returns-else-at-self : goal.returns-else-at-self
-returns-else-at-self c =
-    let none = not_open c.args.self.now c.args.poster c.args.number c.place-at.result (cc) (omega arith) in
-    record { counted = refl; shorter = omega arith; jobs = none }
+pub returns-clause-jobs : goal.returns-clause-jobs
+returns-clause-jobs c =
+    filter-from_retain _ (is_other c.args.id.poster c.args.id.number) _ (λ x b f' y called. search rules) _ _ c.retain.ensures.filtered

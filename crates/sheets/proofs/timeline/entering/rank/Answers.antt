@@ -1,11 +1,9 @@
-use Rattle.std.proofs.Common.{sum, ap, ◌∙◌, take_all, rules}
-use Rattle.std.proofs.lemmas.List.Sums.{sum_by_more}
+use Rattle.std.proofs.Common.{◌^◌, arith, rules, tests}
+use Rattle.std.proofs.lemmas.Iterator.{YieldsList-from_slice}
+use Rattle.std.proofs.lemmas.Iterator.Adapters.{fits_from_length, at_most_from_yields_List}
 use Rattle.sheets.proofs.timeline.entering.rank.Goals as goal
 
-pub loop-entry-preserved : goal.loop-entry-preserved
-loop-entry-preserved c =
-    let more = sum_by_more (λ x. x) c.args.stamp.now.entries c.loop-entry.entry-index 0 (search rules) in
-    search (rules, more)
-
-pub returns : goal.returns
-returns c = c.loop-entry.invariant.0 ∙ ap sum (take_all c.loop-entry.entry-index c.args.stamp.now.entries (search rules))
+pub sum-requires-clause-fits : goal.sum-requires-clause-fits
+sum-requires-clause-fits c =
+    fits_from_length _ _ 16 (2 ^ 32) (at_most_from_yields_List (YieldsList-from_slice c.args.stamp.now.entries cc) (omega arith))
+    c.map.ensures.closure (omega arith) (λ x r q k. search (rules, tests))

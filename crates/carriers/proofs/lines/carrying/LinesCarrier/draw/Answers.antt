@@ -26,10 +26,10 @@ returns g c =
     let long = length_waiting l seat c.if-seat-self.false in
     let at_most = l.within seat in
     let inside : place < length ((lines_of l).waiting seat) = omega (arith, long, c.if-place-self.false) in
-    let e = c.take-letter.ensures in
+    let e = c.take.ensures in
     record {
       answer = sym (draw_ok (lines_of l) seat place c.if-seat-self.false (omega (arith, long, at_most, c.if-place-self.false)));
-      leaves = (e.lists, c.hand_out.ensures ∙ ap parts_of e.taken ∙ sym (get_or-map parts_of ((lines_of l).waiting seat) place _ _ inside));
+      leaves = (e.lists, c.parts.ensures ∙ ap parts_of e.taken ∙ sym (get_or-map parts_of ((lines_of l).waiting seat) place _ _ inside));
       size = e.size;
       kept = tt;
     }

@@ -1,22 +1,15 @@
-use Rattle.std.proofs.Common.{sym, ap, ◌∙◌, add-one}
-use Rattle.std.proofs.lemmas.Bool.{and_right}
+use Rattle.std.proofs.Common.{ℕ, Bool, rules, tests, refl, sym, ap, ◌∙◌, ◌==◌, ◌||◌, ◌&&◌, slice_index, nat_lt, arith}
+use Rattle.std.proofs.lemmas.Iterator.{YieldsList-from_range}
+use Rattle.std.proofs.lemmas.Iterator.Search.{all_from_yields_List}
+use Rattle.std.proofs.lemmas.Bool.{lt-ltb}
+use Rattle.letters.proofs.Bounded.{each_listed}
 use Rattle.carriers.specs.Lines.{others_free}
-use Rattle.carriers.specs.LineLaws.{free_more}
-use Rattle.carriers.proofs.Counts.{free_not}
 use Rattle.carriers.proofs.lines.carrying.LinesCarrier.fits.Goals as goal
-use Rattle.carriers.proofs.lines.carrying.LinesCarrier.fits.Goals.{else-seat-poster-via-then-seat-poster+else-self-seat, else-seat-poster-via-else-seat-poster}
 
-pub returns-then-self-seat : goal.returns-then-self-seat
-returns-then-self-seat g c =
+pub returns-then-poster-self : goal.returns-then-poster-self
+returns-then-poster-self g c =
     let l = c.args.self.now in
-    sym (and_right _ _ (free_not l.counts l.size c.args.poster l.seats c.loop-seat.seat c.loop-seat-test.true c.if-seat-poster.true c.if-self-seat.true))
-
-pub loop-seat-preserved : goal.loop-seat-preserved
-loop-seat-preserved g c =
-    let l = c.args.self.now in
-    let seat = c.loop-seat.seat in
-    ap (others_free l.counts l.size c.args.poster) (add-one seat)
-    ∙ elim c.else-seat-poster.branch [
-      | else-seat-poster-via-then-seat-poster+else-self-seat w ↦ free_more l.counts l.size c.args.poster seat (λ _. w.if-self-seat.false) c.loop-seat.invariant
-      | else-seat-poster-via-else-seat-poster w ↦ free_more l.counts l.size c.args.poster seat (λ ne. absurd (ne w.if-seat-poster.false)) c.loop-seat.invariant
-    ]
+    let test : ℕ → Bool = λ k. (k == c.args.poster) || nat_lt (slice_index l.counts k) l.size in
+    all_from_yields_List test _ _ _ c.all.ensures.ran (YieldsList-from_range 0 l.seats l.seats refl (omega arith)) (λ x b q k. search (rules, tests))
+    ∙ each_listed test l.seats
+    ∙ sym (ap (λ b. b && others_free l.counts l.size c.args.poster l.seats) (lt-ltb c.args.poster l.seats c.if-poster-self.true))
