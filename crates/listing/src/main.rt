@@ -1,6 +1,7 @@
 // Lists a file of letter records, or says where it is damaged.
 #![tactic(auto)]
 
+use crate::kind::Kind;
 use crate::line::{Say, add_count};
 use crate::stepping::{Page, add_next};
 use letters::body::Body;
@@ -13,9 +14,9 @@ use records::record::RECORD_SIZE;
 use std::alloc::AllocError;
 use std::io::Read;
 use std::process::ExitCode;
-use std::str::FromStr;
 use std::{env, io};
 
+mod kind;
 mod line;
 mod stepping;
 
@@ -69,38 +70,13 @@ fn list<B: Say>(rt: &HostRuntime, body: B) -> io::Result<()> {
 }
 
 // Which kind of body the one argument asks for.
-#[derive(Clone, Copy)]
-enum Kind {
-    Text,
-    Job,
-}
-
-// A word that names no kind of body.
-#[derive(Clone, Copy)]
-struct UnknownKind;
-
-impl FromStr for Kind {
-    type Err = UnknownKind;
-
-    fn from_str(word: &str) -> Result<Kind, UnknownKind> {
-        match word {
-            "text" => Ok(Kind::Text),
-            "job" => Ok(Kind::Job),
-            _ => Err(UnknownKind),
-        }
-    }
-}
-
 fn kind_asked(rt: &HostRuntime) -> Option<Kind> {
-    let Ok(mut args) = env::args(rt) else {
-        return None;
-    };
+    let mut args = env::args(rt).ok()?;
     let _program = args.next();
-    let word = args.next()?;
-    if args.next().is_some() {
-        return None;
+    match (args.next(), args.next()) {
+        (Some(word), None) => word.as_str().parse().ok(),
+        _ => None,
     }
-    word.as_str().parse().ok()
 }
 
 // Lists what the arguments ask for, or says how the program is used.
