@@ -1,4 +1,4 @@
-use Rattle.std.proofs.Common.{refl, ap, rules}
+use Rattle.std.proofs.Common.{refl, ap}
 use Rattle.std.proofs.lemmas.Result.{err_from_is_err_and}
 use Rattle.lives.specs.declared.moves.Move.TheVariants.{Post}
 use Rattle.lives.specs.Traces.{dockets}
@@ -21,5 +21,5 @@ returns g c =
     let d = slip c.in_ok-docket.docket in
     let posted = c.in_ok-docket.ensures in
     dispatch_follows (Post c.args.seat c.args.job) d w (moment (state c.post.new.self) c.post.new.logs w.holds w.carrier) (standing g.C.Carrier.meaning c.dispatch.new.self)
-    c.dispatch.result (search rules)
+    c.dispatch.result
     (record { answers = ap dockets posted.answer; room = c.post.ensures.room; logs = c.post.ensures.logs; holds = refl; carrier = refl }) c.dispatch.ensures
