@@ -3,20 +3,12 @@ use Rattle.std.proofs.Common.{◌≡◌, ℕ, List, length, set, Ok, ap, ◌∙�
 use Rattle.letters.specs.declared.letter.Letter.{Letter}
 use Rattle.letters.specs.declared.stamp.Stamp.{Stamp}
 use Rattle.letters.specs.Letters.{parts, parts_of}
-use Rattle.seats.specs.declared.slip.Slip.{Slip}
 use Rattle.seats.specs.Outcomes.{PostLogs, answered, post_answer, post_check, posted_room, posted_seat, slip_of}
 use Rattle.seats.specs.Rooms.{RoomState, foot, seat_at}
-use Rattle.rooms.specs.Calls.{post_room}
 
 module _ (st : RoomState) (logs holds s : ℕ) (can : Ok tt ≡ post_check st logs holds s) where
   accepted : Ok (slip_of (posted_room st s) s) ≡ post_answer st logs holds s
   accepted = ap (λ k. answered k (slip_of (posted_room st s) s)) can
-
-  pub post_answered : (st' : RoomState) (d : Slip) → st' ≡ posted_room st s → d ≡ slip_of st' s → Ok d ≡ post_answer st logs holds s
-  post_answered st' d room docket = ap (λ x. Ok x) (docket ∙ ap (λ x. slip_of x s) room) ∙ accepted
-
-  pub post_roomed : (st' : RoomState) → st' ≡ posted_room st s → st' ≡ post_room st (post_answer st logs holds s) s
-  post_roomed st' room = room ∙ ap (λ k. post_room st k s) accepted
 
 module _ {B : Type 0} (st : RoomState) (holds s : ℕ) (body : B) (logs logs' : List (Letter B)) (can : Ok tt ≡ post_check st (length logs) holds s) where
   pub post_logged : (i : ℕ) (stamp : Stamp) (m : Letter B) → logs' ≡ set logs i m → i ≡ foot st s → stamp ≡ (posted_seat (seat_at st s) s).clock → parts_of m ≡ parts stamp s body

@@ -1,7 +1,9 @@
 -- A room by its state: what it keeps to, and what holds where nothing has happened.
-use Rattle.std.proofs.Common.{◌≡◌, ℕ, zero, suc, ◌<◌, ◌≤◌, length, get_or, replicate, refl, ap, arith}
+use Rattle.std.proofs.Common.{◌≡◌, ℕ, zero, suc, ◌<◌, ◌≤◌, length, get_or, replicate, Ok, Err, Result, refl, ap, arith}
 use Rattle.std.proofs.lemmas.List.{get_or-replicate}
+use Rattle.letters.specs.Refusals.{Reason}
 use Rattle.seats.specs.Keeping.{Nobody, Sound, Within}
+use Rattle.seats.specs.Outcomes.{answered}
 use Rattle.seats.specs.Seats.{blank, fresh}
 use Rattle.rooms.specs.declared.room.Room.{Room}
 use Rattle.rooms.specs.States.{state}
@@ -38,3 +40,12 @@ fresh_nobody n = replicate_each (Nobody n) 16 fresh blank (λ p h. replicate_eac
 
 pub fresh-placed : (m s : ℕ) → (get_or (replicate 16 fresh) s blank).held ≤ m
 fresh-placed m = replicate_each (λ x. x.held ≤ m) 16 fresh blank (omega arith) (omega arith)
+
+-- an accepted check, and what it answers
+pub record Says {X : Type 0} (r : Result (Unit {0}) Reason) (x y : X) : Type 0 where
+  pub can : Ok tt ≡ r
+  pub is : x ≡ y
+
+pub says : {X : Type 0} (r : Result (Unit {0}) Reason) (x y : X) → Ok x ≡ answered r y → Says r x y
+says (Ok done) x y e = record { can = refl; is = cc }
+says (Err why) x y e = absurd (let z : ◌≡◌ {A = ℕ} 0 1 = cc in omega arith)

@@ -19,6 +19,10 @@ mod take;
 
 // A room in which letters are posted: its terms, and what it keeps for each seat. Open, it is one of three types; a draft
 // comes before it and a closed room after it.
+//
+// The two letter tables go with almost every call and are no struct of both: some calls write one and only read the other,
+// so a struct would make a caller lend both to be written. The seats stand in a table of sixteen, which is written back
+// whole; the names do not change with them, and stand with the terms.
 #[derive(Drop)]
 pub struct Room {
     terms: Terms,

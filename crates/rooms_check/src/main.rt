@@ -58,10 +58,7 @@ impl From<io::Error> for Stop {
 fn tell(rt: &HostRuntime, ended: Result<(), Stop>) -> io::Result<()> {
     match ended {
         Ok(()) => Ok(()),
-        Err(Stop::Refused(why)) => {
-            let number = why.number();
-            println!(rt; "refused {number}")
-        }
+        Err(Stop::Refused(why)) => println!(rt; "refused {why}"),
         Err(Stop::Io(error)) => Err(error),
     }
 }
@@ -69,12 +66,11 @@ fn tell(rt: &HostRuntime, ended: Result<(), Stop>) -> io::Result<()> {
 // The step that twelve bytes write: the call, a seat, a 16-bit number, a 32-bit one, a poster, and zeros.
 // The calls are 1 post an add, 2 post a strike, 3 send, 4 park, 5 collect, 6 take, and show by any other.
 fn read_move(bytes: &[u8]) -> Result<Move<Job>, Refusal> {
-    let [call, seat, low, high, a, b, c, d, poster, ..] = bytes else {
+    let &[call, seat, low, high, a, b, c, d, poster, ..] = bytes else {
         return Ok(Move::Show(0));
     };
-    let seat = *seat;
-    let number = u16::from_le_bytes([*low, *high]);
-    let wide = u32::from_le_bytes([*a, *b, *c, *d]);
+    let number = u16::from_le_bytes([low, high]);
+    let wide = u32::from_le_bytes([a, b, c, d]);
     let slip = Slip {
         room: wide,
         seat,
@@ -82,7 +78,7 @@ fn read_move(bytes: &[u8]) -> Result<Move<Job>, Refusal> {
     };
     match call {
         1 => Ok(Move::Post(seat, Job::Add(wide))),
-        2 => Ok(Move::Post(seat, Job::strike(*poster, number)?)),
+        2 => Ok(Move::Post(seat, Job::strike(poster, number)?)),
         3 => Ok(Move::Send(slip)),
         4 => Ok(Move::Park(slip)),
         5 => Ok(Move::Collect(seat)),
@@ -96,7 +92,7 @@ fn print_reply(rt: &HostRuntime, reply: Reply) -> io::Result<()> {
         Reply::Docket(Slip { room, seat, number }) => println!(rt; "docket {room} {seat} {number}"),
         Reply::Done => println!(rt; "done"),
         Reply::Taken(taken) => println!(rt; "{taken}"),
-        Reply::Shown(id) => println!(rt; "shown {}.{}", id.poster(), id.number()),
+        Reply::Shown(id) => println!(rt; "shown {id}"),
     }
 }
 
@@ -110,7 +106,7 @@ fn print_log(
     print!(rt; "log {seat}")?;
     if let Ok(log) = room.log(logs, holds, seat) {
         for letter in log {
-            print!(rt; " {}.{}", letter.poster(), letter.number())?;
+            print!(rt; " {}", letter.id())?;
         }
     }
     println!(rt; "")
@@ -233,13 +229,13 @@ fn run(rt: &HostRuntime, setting: Setting, steps: &[u8]) -> Result<(), Stop> {
 fn main(rt: HostRuntime) -> io::Result<()> {
     let mut input = Vec::new(rt.alloc());
     let _ = rt.stdin().read_to_end(&mut input)?;
-    let [seats, low, high, size, steps @ ..] = input.as_slice() else {
+    let &[seats, low, high, size, ref steps @ ..] = input.as_slice() else {
         return Ok(());
     };
     let setting = Setting {
-        seats: *seats,
-        quota: u16::from_le_bytes([*low, *high]),
-        size: *size as u32,
+        seats,
+        quota: u16::from_le_bytes([low, high]),
+        size: size as u32,
     };
     tell(&rt, run(&rt, setting, steps))
 }

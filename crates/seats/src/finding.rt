@@ -7,7 +7,8 @@ ghost use Rattle.seats.specs.Scans.{due};
 use letters::letter::Letter;
 use letters::stamp::Stamp;
 
-// The first letter with this name, with its place.
+// The first letter with this name, with its place. A name that is asked for may be one that no letter has, so it is no
+// `LetterId`.
 pub fn find_named<B: Copy>(
     letters: &[Letter<B>],
     poster: u8,

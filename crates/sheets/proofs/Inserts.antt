@@ -1,4 +1,4 @@
--- Rows put in at their place, and taken out.
+-- Rows put in at their place.
 use Rattle.std.proofs.Common.{◌≡◌, Bool, List, [], ◌∷◌, refl, ap, inl, inr, one-add}
 use Rattle.std.proofs.lemmas.Bool.{cases_Bool}
 use Rattle.std.specs.List.{insert}

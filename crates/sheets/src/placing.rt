@@ -5,7 +5,7 @@ ghost use Rattle.sheets.specs.Placing.{place_among, placed};
 
 use arrayvec::ArrayVec;
 
-// A type of rows that have an order.
+// A type of rows that have an order. It is no `PartialOrd`, since rows that differ can stand level in it.
 pub(crate) trait Placed: Copy {
     ghost after: { Self → Self → Bool };
 

@@ -1,7 +1,7 @@
 // Sheets of every kind, and how a log is drawn up on one.
-ghost use Rattle.std.specs.Prelude.{◌≡◌, ◌+◌, ◌<◌, ◌≤◌, length, Ok};
+ghost use Rattle.std.specs.Prelude.{◌≡◌, ℕ, ◌<◌, length};
 ghost use Rattle.letters.specs.Refusals.{told};
-ghost use Rattle.sheets.specs.Sheets.{Converges, DrawnTo, Kind, Lawful, answered, draw_up_outcome, enter_outcome, left_by};
+ghost use Rattle.sheets.specs.Sheets.{Converges, Kind, Lawful, answered, draw_up_outcome, enter_outcome, left_by};
 
 use letters::body::Body;
 use letters::letter::Letter;
@@ -15,6 +15,8 @@ pub trait Sheet {
     // How many letters can be entered.
     const PLACES: u32;
 
+    ghost PLACES: { ℕ };
+
     // What a sheet can mean, apart from how it is held.
     ghost Meaning: { Type 0 };
 
@@ -22,10 +24,6 @@ pub trait Sheet {
 
     // The places, which are PLACES, the count of letters, the empty sheet, and what a letter does.
     ghost kind: { Kind Meaning Self.Body };
-
-    // How many letters can be entered.
-    fn capacity() -> u32
-        ensures { result ≡ kind.places };
 
     // How many letters are entered.
     fn letters(&self) -> u32
@@ -41,6 +39,8 @@ pub trait Sheet {
         ensures leaves { meaning self.new ≡ left_by (enter_outcome kind (meaning self.old) letter.now) (meaning self.old) }
         ensures untouched { kind.count (meaning self.old) ≡ kind.places → self.new ≡ self.old };
 
+    ghost sized: { kind.places ≡ PLACES };
+
     ghost lawful: { Lawful kind };
 }
 
@@ -52,7 +52,7 @@ pub fn draw_up<K: Sheet>(sheet: &mut K, log: &[Letter<K::Body>]) -> Result<(), R
     ensures untouched { K.Sheet.kind.places < length log.now → sheet.new ≡ sheet.old }
     ensures converges { Converges K.Sheet.kind }
 {
-    if log.len() > K::capacity() as usize {
+    if log.len() > K::PLACES as usize {
         return Err(Refusal::TooFewPlaces);
     }
     sheet.clear();

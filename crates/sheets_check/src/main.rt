@@ -5,8 +5,6 @@
 // which sheet: 1 the timeline, 2 the job list.
 #![tactic(auto)]
 
-ghost use Rattle.std.specs.Prelude.{◌≡◌, length};
-
 use letters::body::Body;
 use letters::job::Job;
 use letters::letter::Letter;
@@ -16,49 +14,54 @@ use letters::text::Text;
 use sheets::job_list::JobList;
 use sheets::sheet::{Sheet, draw_up};
 use sheets::timeline::Timeline;
-use std::io;
 use std::io::Read;
+use std::{array, io};
 
 const BLOCK: usize = 96;
 
-const DRAW_UP: u8 = 255;
-
-const ENTER: u8 = 254;
-
-fn stamp_of(block: &[u8]) -> Stamp
-    requires { length block.now ≡ 96 }
-{
-    let mut entries = [0; 16];
-    for seat in 0..16 {
-        entries[seat] = u16::from_le_bytes([block[2 * seat], block[2 * seat + 1]]);
-    }
-    Stamp { entries }
+// What a block asks for that holds no letter.
+enum Order {
+    DrawUp,
+    Enter,
 }
 
-fn text_letter(block: &[u8]) -> Result<Letter<Text>, Refusal>
-    requires { length block.now ≡ 96 }
-{
-    let len = block[34] as usize;
-    if len > 60 {
-        return Err(Refusal::BadRecord);
+impl Order {
+    fn of(block: &[u8; BLOCK]) -> Option<Order> {
+        match block[32] {
+            255 => Some(Order::DrawUp),
+            254 => Some(Order::Enter),
+            _ => None,
+        }
     }
-    let text = Text::new(&block[36..36 + len])?;
-    Letter::new(stamp_of(block), block[32], text)
 }
 
-fn job_of(block: &[u8]) -> Result<Job, Refusal>
-    requires { length block.now ≡ 96 }
-{
-    if block[36] == 1 {
-        return Ok(Job::Add(u32::from_le_bytes([block[37], block[38], block[39], block[40]])));
-    }
-    Job::strike(block[37], u16::from_le_bytes([block[38], block[39]]))
+// A type of bodies, as a block says them.
+trait Said: Body {
+    fn said(block: &[u8; BLOCK]) -> Result<Self, Refusal>;
 }
 
-fn job_letter(block: &[u8]) -> Result<Letter<Job>, Refusal>
-    requires { length block.now ≡ 96 }
-{
-    Letter::new(stamp_of(block), block[32], job_of(block)?)
+impl Said for Text {
+    fn said(block: &[u8; BLOCK]) -> Result<Text, Refusal> {
+        let len = block[34] as usize;
+        if len > 60 {
+            return Err(Refusal::BadRecord);
+        }
+        Text::new(&block[36..36 + len])
+    }
+}
+
+impl Said for Job {
+    fn said(block: &[u8; BLOCK]) -> Result<Job, Refusal> {
+        if block[36] == 1 {
+            return Ok(Job::Add(u32::from_le_bytes([block[37], block[38], block[39], block[40]])));
+        }
+        Job::strike(block[37], u16::from_le_bytes([block[38], block[39]]))
+    }
+}
+
+fn letter_of<B: Said>(block: &[u8; BLOCK]) -> Result<Letter<B>, Refusal> {
+    let entries = array::from_fn(|seat| u16::from_le_bytes([block[2 * seat], block[2 * seat + 1]]));
+    Letter::new(Stamp { entries }, block[32], B::said(block)?)
 }
 
 // Enters letters one by one; the answer is that of the last.
@@ -70,18 +73,17 @@ fn enter_all<K: Sheet>(sheet: &mut K, log: &[Letter<K::Body>]) -> Result<(), Ref
     answer
 }
 
-fn work<K: Sheet>(sheet: &mut K, log: &[Letter<K::Body>], order: u8) -> Result<(), Refusal> {
-    if order == DRAW_UP {
-        draw_up(sheet, log)
-    } else {
-        enter_all(sheet, log)
+fn work<K: Sheet>(sheet: &mut K, log: &[Letter<K::Body>], order: Order) -> Result<(), Refusal> {
+    match order {
+        Order::DrawUp => draw_up(sheet, log),
+        Order::Enter => enter_all(sheet, log),
     }
 }
 
 fn print_answer(rt: &HostRuntime, answer: Result<(), Refusal>) -> io::Result<()> {
     match answer {
         Ok(()) => println!(rt; "done"),
-        Err(refusal) => println!(rt; "refused {}", refusal.number()),
+        Err(refusal) => println!(rt; "refused {refusal}"),
     }
 }
 
@@ -114,21 +116,14 @@ fn print_codes(rt: &HostRuntime, list: &JobList, log: &[Letter<Job>]) -> io::Res
     Ok(())
 }
 
-fn keep_text(rt: &HostRuntime, texts: &mut Vec<Letter<Text>>, block: &[u8]) -> io::Result<()>
-    requires { length block.now ≡ 96 }
-{
-    match text_letter(block) {
-        Ok(letter) => texts.push(letter)?,
-        Err(_) => println!(rt; "bad")?,
-    }
-    Ok(())
-}
-
-fn keep_job(rt: &HostRuntime, jobs: &mut Vec<Letter<Job>>, block: &[u8]) -> io::Result<()>
-    requires { length block.now ≡ 96 }
-{
-    match job_letter(block) {
-        Ok(letter) => jobs.push(letter)?,
+// Keeps a block's letter for the next order, or says that there is none.
+fn keep<B: Said>(
+    rt: &HostRuntime,
+    log: &mut Vec<Letter<B>>,
+    block: &[u8; BLOCK],
+) -> io::Result<()> {
+    match letter_of(block) {
+        Ok(letter) => log.push(letter)?,
         Err(_) => println!(rt; "bad")?,
     }
     Ok(())
@@ -138,23 +133,21 @@ fn main(rt: HostRuntime) -> io::Result<()> {
     let heap = rt.alloc();
     let mut input = Vec::new(heap);
     rt.stdin().read_to_end(&mut input)?;
-    let input = input.as_slice();
     let mut timeline = Timeline::new();
     let mut list = JobList::new();
     let mut texts: Vec<Letter<Text>> = Vec::new(heap);
     let mut jobs: Vec<Letter<Job>> = Vec::new(heap);
-    for i in 0..input.len() / BLOCK {
-        let block = &input[i * BLOCK..i * BLOCK + BLOCK];
-        let order = block[32];
-        match (order >= ENTER, block[33]) {
-            (false, 1) => keep_text(&rt, &mut texts, block)?,
-            (false, _) => keep_job(&rt, &mut jobs, block)?,
-            (true, 1) => {
+    let (blocks, _) = input.as_slice().as_chunks::<BLOCK>();
+    for block in blocks {
+        match (Order::of(block), block[33]) {
+            (None, 1) => keep(&rt, &mut texts, block)?,
+            (None, _) => keep(&rt, &mut jobs, block)?,
+            (Some(order), 1) => {
                 print_answer(&rt, work(&mut timeline, texts.as_slice(), order))?;
                 print_timeline(&rt, &timeline)?;
                 texts.clear();
             }
-            (true, _) => {
+            (Some(order), _) => {
                 print_answer(&rt, work(&mut list, jobs.as_slice(), order))?;
                 print_jobs(&rt, &list)?;
                 print_codes(&rt, &list, jobs.as_slice())?;

@@ -82,8 +82,7 @@ impl Draft {
         if self.terms.count == 0 {
             return Err(Refusal::NoSeats);
         }
-        let places = self.terms.count as usize * self.terms.places() as usize;
-        if logs.len() < places || holds.len() < places {
+        if !self.terms.suffice(logs.len(), holds.len()) {
             return Err(Refusal::TooShort);
         }
         if carrier.seats() != self.terms.count {

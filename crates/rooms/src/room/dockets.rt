@@ -2,15 +2,15 @@
 ghost use Rattle.std.specs.Prelude.{◌≡◌, ◌<◌};
 ghost use Rattle.letters.specs.Refusals.{told};
 ghost use Rattle.seats.specs.declared.seat.DocketEvent.TheVariants.{Park, Collect};
-ghost use Rattle.seats.specs.Outcomes.{collect_answer, docket_room, good_slip, park_answer, slip_of};
+ghost use Rattle.seats.specs.Outcomes.{collect_answer, docket_room, good_slip, park_answer};
 ghost use Rattle.seats.specs.Rooms.{seat_at, with_seat};
-ghost use Rattle.seats.specs.Seats.{docketed};
+ghost use Rattle.seats.specs.Seats.{clock_at, docketed};
 ghost use Rattle.rooms.specs.States.{ComesBack, slip, spent, state};
 
 use crate::docket::{Docket, Returned};
 use crate::room::Room;
 use letters::refusal::Refusal;
-use seats::seat::DocketEvent;
+use seats::seat::{DocketEvent, Seat};
 use seats::slip::Slip;
 
 impl Room {
@@ -35,26 +35,22 @@ impl Room {
         ensures answer { told slip result ≡ collect_answer (state self.old) seat }
         ensures room { state self.new ≡ docket_room (state self.old) seat Collect (collect_answer (state self.old) seat) }
     {
-        if seat >= self.terms.count {
-            return Err(Refusal::UnknownSeat);
-        }
-        let mut poster = self.seats[seat as usize];
+        let mut poster = self.seat(seat)?;
         if !poster.move_docket(DocketEvent::Collect) {
             return Err(Refusal::NotParked);
         }
-        self.note_docket(seat, DocketEvent::Collect);
-        Ok(Docket::of(self.newest(seat)))
+        self.tell(seat, poster);
+        Ok(Docket::of(self.newest(seat, &poster)))
     }
 
-    // What the docket of the newest letter that a seat posted says.
-    pub(crate) fn newest(&self, seat: u8) -> Slip
-        requires { seat < self.now.terms.count }
-        ensures { result ≡ slip_of (state self.now) seat }
+    // What the docket of the newest letter says that seat s posted, which is copied out.
+    pub(crate) fn newest(&self, s: u8, poster: &Seat) -> Slip
+        ensures { result ≡ record { room = self.now.terms.number; seat = s; number = clock_at poster.now s } }
     {
         Slip {
             room: self.terms.number,
-            seat,
-            number: self.seats[seat as usize].clock.entry(seat),
+            seat: s,
+            number: poster.clock.entry(s),
         }
     }
 
@@ -63,11 +59,10 @@ impl Room {
         ensures { result ≡ good_slip (state self.now) (slip docket.now) }
     {
         let slip = docket.slip();
-        if slip.seat >= self.terms.count {
+        let Ok(mut poster) = self.seat(slip.seat) else {
             return false;
-        }
-        let mut poster = self.seats[slip.seat as usize];
-        poster.move_docket(DocketEvent::Send) && slip == self.newest(slip.seat)
+        };
+        poster.move_docket(DocketEvent::Send) && slip == self.newest(slip.seat, &poster)
     }
 
     // Tells a seat what happens to its docket.
@@ -75,8 +70,8 @@ impl Room {
         requires { seat < self.old.terms.count }
         ensures { state self.new ≡ with_seat (state self.old) seat (docketed (seat_at (state self.old) seat) event) }
     {
-        let mut poster = self.seats[seat as usize];
-        let _ = poster.move_docket(event);
-        self.tell(seat, poster);
+        let mut told = self.seats[seat as usize];
+        let _ = told.move_docket(event);
+        self.tell(seat, told);
     }
 }

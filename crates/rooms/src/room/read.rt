@@ -20,18 +20,14 @@ impl Room {
     ) -> Result<&'t [Letter<B>], Refusal>
         ensures { told (λ log. log.now) result ≡ log_answer (state self.now) logs.now (length holds.now) seat }
     {
-        self.may_visit(logs.len(), holds.len(), seat)?;
-        Ok(self.log_part(logs, seat))
+        let reader = self.visit(logs.len(), holds.len(), seat)?;
+        Ok(self.log_part(logs, seat, &reader))
     }
 
     // How many pages a seat's log takes. Refused with 8.
     pub fn pages(&self, seat: u8) -> Result<u32, Refusal>
         ensures { told (λ n. n) result ≡ pages_answer (state self.now) seat }
     {
-        if seat >= self.terms.count {
-            return Err(Refusal::UnknownSeat);
-        }
-        let reader = self.seats[seat as usize];
-        Ok(pages(reader.log_len()))
+        Ok(pages(self.seat(seat)?.log_len()))
     }
 }

@@ -68,17 +68,18 @@ impl Room {
             return Err(Refusal::WrongDocket);
         }
         let Slip { seat, number, .. } = docket.slip();
-        match find_named(self.log_part(logs, seat), seat, number) {
-            Some((_, letter)) => Ok(letter),
-            None => Err(Refusal::LetterMissing),
-        }
+        let log = self.log_part(logs, seat, &self.seats[seat as usize]);
+        let Some((_, letter)) = find_named(log, seat, number) else {
+            return Err(Refusal::LetterMissing);
+        };
+        Ok(letter)
     }
 
     // Whether the tables suffice and the carrier serves as many seats as the room has.
     pub(crate) fn may_carry(&self, logs: usize, holds: usize, seats: u8) -> Result<(), Refusal>
         ensures { told (λ u. u) result ≡ carrier_check (state self.now) logs holds seats }
     {
-        if !self.suffice(logs, holds) {
+        if !self.terms.suffice(logs, holds) {
             return Err(Refusal::TooShort);
         }
         if seats != self.terms.count {

@@ -1,10 +1,11 @@
 // The table of seats, and where each seat's letters lie in the letter tables.
-ghost use Rattle.std.specs.Prelude.{◌≡◌, ◌+◌, ◌*◌, ◌<◌, ◌≤◌, replicate};
+ghost use Rattle.std.specs.Prelude.{◌≡◌, ◌+◌, ◌<◌, ◌≤◌, replicate, take, drop};
 ghost use Rattle.letters.specs.Refusals.{told};
 ghost use Rattle.seats.specs.Keeping.{Kept};
-ghost use Rattle.seats.specs.Outcomes.{seat_check};
-ghost use Rattle.seats.specs.Rooms.{foot, hold_of, log_of, start, suffice, with_seat};
-ghost use Rattle.seats.specs.Seats.{fresh};
+ghost use Rattle.seats.specs.Outcomes.{answered, seat_check};
+ghost use Rattle.seats.specs.Rooms.{seat_at, start, with_seat};
+ghost use Rattle.seats.specs.Seats.{fresh, log_length};
+ghost use Rattle.rooms.specs.Reading.{seat_answer};
 ghost use Rattle.rooms.specs.States.{state};
 
 use crate::room::Room;
@@ -51,51 +52,54 @@ impl Room {
         s as usize * self.terms.places() as usize
     }
 
-    // Whether both letter tables have a place for every letter of every seat.
-    pub(crate) fn suffice(&self, logs: usize, holds: usize) -> bool
-        ensures { result ≡ suffice (state self.now) logs holds }
+    // The place after the last letter of the log of seat s, which is copied out.
+    pub(crate) fn foot(&self, s: u8, seat: &Seat) -> usize
+        ensures { result ≡ start (state self.now) s + log_length seat.now }
     {
-        let whole = self.start(self.terms.count);
-        whole <= logs && whole <= holds
-    }
-
-    // The place after the last letter of a seat's log.
-    pub(crate) fn foot(&self, s: u8) -> usize
-        requires { s < self.now.terms.count }
-        ensures { result ≡ foot (state self.now) s }
-    {
-        let seat = self.seats[s as usize];
         self.start(s) + seat.log_len() as usize
     }
 
-    // The letters of a seat's log.
-    pub(crate) fn log_part<'t, B: Body>(&self, logs: &'t [Letter<B>], s: u8) -> &'t [Letter<B>]
-        requires { s < self.now.terms.count }
-        ensures { result.now ≡ log_of (state self.now) logs.now s }
+    // The letters of its log.
+    pub(crate) fn log_part<'t, B: Body>(
+        &self,
+        logs: &'t [Letter<B>],
+        s: u8,
+        seat: &Seat,
+    ) -> &'t [Letter<B>]
+        ensures { result.now ≡ take (log_length seat.now) (drop (start (state self.now) s) logs.now) }
     {
-        let seat = self.seats[s as usize];
         part(logs, self.start(s), seat.log_len() as usize)
     }
 
-    // The letters of a seat's hold, in order of arrival.
-    pub(crate) fn hold_part<'t, B: Body>(&self, holds: &'t [Letter<B>], s: u8) -> &'t [Letter<B>]
-        requires { s < self.now.terms.count }
-        ensures { result.now ≡ hold_of (state self.now) holds.now s }
+    // The letters of its hold, in order of arrival.
+    pub(crate) fn hold_part<'t, B: Body>(
+        &self,
+        holds: &'t [Letter<B>],
+        s: u8,
+        seat: &Seat,
+    ) -> &'t [Letter<B>]
+        ensures { result.now ≡ take seat.now.held (drop (start (state self.now) s) holds.now) }
     {
-        let seat = self.seats[s as usize];
         part(holds, self.start(s), seat.held as usize)
     }
 
-    // Whether the tables suffice and the seat is of this room.
-    pub(crate) fn may_visit(&self, logs: usize, holds: usize, seat: u8) -> Result<(), Refusal>
-        ensures { told (λ u. u) result ≡ seat_check (state self.now) logs holds seat }
+    // What the room keeps for a seat, copied out; 8 where it has no such seat.
+    pub(crate) fn seat(&self, s: u8) -> Result<Seat, Refusal>
+        ensures { told (λ x. x) result ≡ seat_answer (state self.now) s }
     {
-        if !self.suffice(logs, holds) {
-            return Err(Refusal::TooShort);
-        }
-        if seat >= self.terms.count {
+        if s >= self.terms.count {
             return Err(Refusal::UnknownSeat);
         }
-        Ok(())
+        Ok(self.seats[s as usize])
+    }
+
+    // The same, with 5 where the tables do not suffice.
+    pub(crate) fn visit(&self, logs: usize, holds: usize, s: u8) -> Result<Seat, Refusal>
+        ensures { told (λ x. x) result ≡ answered (seat_check (state self.now) logs holds s) (seat_at (state self.now) s) }
+    {
+        if !self.terms.suffice(logs, holds) {
+            return Err(Refusal::TooShort);
+        }
+        self.seat(s)
     }
 }

@@ -1,11 +1,9 @@
 // Taking.
-ghost use Rattle.std.specs.Prelude.{◌≡◌, ◌*◌, ◌<◌, length};
+ghost use Rattle.std.specs.Prelude.{◌≡◌, ◌<◌, length};
 ghost use Rattle.letters.specs.Letters.{letter_name};
 ghost use Rattle.letters.specs.Refusals.{told};
 ghost use Rattle.carriers.specs.Meaning.{draw_answer};
-ghost use Rattle.seats.specs.Outcomes.{Take, is_repeat, is_stray, take_check, taken_as, taken_holds, taken_room, taking};
-ghost use Rattle.seats.specs.Rooms.{seat_at, with_seat};
-ghost use Rattle.seats.specs.Seats.{holding};
+ghost use Rattle.seats.specs.Outcomes.{Take, take_check, taken_as, taken_holds, taken_room, taking};
 ghost use Rattle.rooms.specs.Calls.{Draws};
 ghost use Rattle.rooms.specs.States.{state};
 
@@ -53,78 +51,37 @@ impl Room {
         ensures { Take (take_check (state self.old) (length logs.now) (length holds.old) (C.Carrier.meaning carrier.old) seat place) (state self.old) holds.old (C.Carrier.meaning carrier.old) seat place (told taken_as result) (state self.new) holds.new (C.Carrier.meaning carrier.new) }
     {
         self.may_carry(logs.len(), holds.len(), carrier.seats())?;
-        self.draw_and_keep(holds, carrier, seat, place)
-    }
-
-    // Draws a letter off a carrier that serves the room's seats, and keeps it or throws it away.
-    fn draw_and_keep<B: Body, C: Carrier<Body = B>>(
-        &mut self,
-        holds: &mut [Letter<B>],
-        carrier: &mut C,
-        seat: u8,
-        place: u32,
-    ) -> Result<Taken, Refusal>
-        requires { (0 < length holds.old) × ((C.Carrier.meaning carrier.old).seats ≡ self.old.terms.count) }
-        ensures { Take (draw_answer (C.Carrier.meaning carrier.old) seat place) (state self.old) holds.old (C.Carrier.meaning carrier.old) seat place (told taken_as result) (state self.new) holds.new (C.Carrier.meaning carrier.new) }
-    {
         let spare = holds[0];
         let letter = draw_letter(carrier, seat, place, spare)?;
         Ok(self.keep(holds, seat, &letter))
     }
 
-    // Keeps a letter that is drawn for a seat, or throws it away.
+    // Keeps a letter that is drawn for a seat, or throws it away: where it cannot be one for this seat or the hold has no
+    // place for it, and where the seat has shown it or holds it.
     fn keep<B: Body>(&mut self, holds: &mut [Letter<B>], seat: u8, letter: &Letter<B>) -> Taken
         requires { seat < self.old.terms.count }
         ensures answer { taken_as result ≡ (taking (state self.old) holds.old seat letter.now, letter_name letter.now) }
         ensures room { state self.new ≡ taken_room (state self.old) (taking (state self.old) holds.old seat letter.now) seat }
         ensures hold { holds.new ≡ taken_holds (state self.old) (taking (state self.old) holds.old seat letter.now) seat letter.now holds.old }
     {
+        let mut taker = self.seats[seat as usize];
         let id = letter.id();
-        if self.is_stray(seat, letter) {
+        let (poster, number) = (id.poster(), id.number());
+        if poster >= self.terms.count
+            || poster == seat
+            || number > self.terms.quota
+            || taker.held >= self.terms.places()
+        {
             return Taken::Stray(id);
         }
-        if self.is_repeat(holds, seat, letter) {
+        if number <= taker.clock.entry(poster)
+            || find_named(self.hold_part(holds, seat, &taker), poster, number).is_some()
+        {
             return Taken::Repeat(id);
         }
-        let end = self.start(seat) + self.seats[seat as usize].held as usize;
-        put(holds, end, *letter);
-        self.note_take(seat);
-        Taken::Held(id)
-    }
-
-    // Whether the letter cannot be one for this seat, or the hold has no place for it.
-    fn is_stray<B: Body>(&self, seat: u8, letter: &Letter<B>) -> bool
-        requires { seat < self.now.terms.count }
-        ensures { result ≡ is_stray (state self.now) seat letter.now }
-    {
-        let poster = letter.poster();
-        let number = letter.number();
-        if poster >= self.terms.count || poster == seat || number > self.terms.quota {
-            return true;
-        }
-        self.seats[seat as usize].held >= self.terms.places()
-    }
-
-    // Whether the seat has shown the letter, or holds it.
-    fn is_repeat<B: Body>(&self, holds: &[Letter<B>], seat: u8, letter: &Letter<B>) -> bool
-        requires { seat < self.now.terms.count }
-        ensures { result ≡ is_repeat (state self.now) holds.now seat letter.now }
-    {
-        let poster = letter.poster();
-        let number = letter.number();
-        if number <= self.seats[seat as usize].clock.entry(poster) {
-            return true;
-        }
-        find_named(self.hold_part(holds, seat), poster, number).is_some()
-    }
-
-    // Tells the seat that it holds one letter more.
-    fn note_take(&mut self, seat: u8)
-        requires { (seat < self.old.terms.count) × ((seat_at (state self.old) seat).held < self.old.terms.count * self.old.terms.quota) }
-        ensures { state self.new ≡ with_seat (state self.old) seat (holding (seat_at (state self.old) seat)) }
-    {
-        let mut taker = self.seats[seat as usize];
+        put(holds, self.start(seat) + taker.held as usize, *letter);
         let _ = taker.hold(self.terms.places());
         self.tell(seat, taker);
+        Taken::Held(id)
     }
 }

@@ -92,11 +92,15 @@ impl Sheet for JobList {
 
     const PLACES: u32 = 128;
 
+    ghost PLACES = { 128 };
+
     ghost Meaning = { Listed };
 
     ghost meaning = { listed_by };
 
     ghost kind = { job_list_kind };
+
+    ghost sized = { refl };
 
     ghost lawful = { record {
       starts = refl;
@@ -105,10 +109,6 @@ impl Sheet for JobList {
           let swap = jobs_swap x.body y.body x y side m.jobs in
           λ i. record { count = m.count + 1 + 1; jobs = swap i };
     } };
-
-    fn capacity() -> u32 {
-        Self::PLACES
-    }
 
     fn letters(&self) -> u32 {
         self.entered

@@ -1,5 +1,5 @@
 // What a timeline shows, and how letters are entered there.
-ghost use Rattle.std.specs.Prelude.{◌≡◌, ◌+◌, length, sum, refl};
+ghost use Rattle.std.specs.Prelude.{◌≡◌, ◌+◌, length, refl};
 ghost use Rattle.sheets.specs.Pages.{page_count};
 ghost use Rattle.sheets.specs.Timelines.{Shown, no_rows, row_after, row_of, shown_by, timeline_kind};
 ghost use Rattle.sheets.specs.Beside.{beside_posters};
@@ -13,7 +13,6 @@ use crate::timeline::Timeline;
 use arrayvec::ArrayVec;
 use letters::letter::Letter;
 use letters::refusal::Refusal;
-use letters::stamp::Stamp;
 use letters::text::Text;
 
 impl Placed for Row {
@@ -24,20 +23,13 @@ impl Placed for Row {
     }
 }
 
-// The sum of a stamp's entries.
-fn rank(stamp: &Stamp) -> u32
-    ensures { result ≡ sum stamp.now.entries }
-{
-    stamp.entries.iter().map(|entry| u32::from(*entry)).sum()
-}
-
 impl Row {
     // The row of a letter.
     pub fn of(letter: &Letter<Text>) -> Row
         ensures { result ≡ row_of letter.now }
     {
         Row {
-            rank: rank(letter.stamp()),
+            rank: letter.stamp().sum(),
             poster: letter.poster(),
             number: letter.number(),
             text: *letter.body(),
@@ -74,11 +66,15 @@ impl Sheet for Timeline {
 
     const PLACES: u32 = 256;
 
+    ghost PLACES = { 256 };
+
     ghost Meaning = { Shown };
 
     ghost meaning = { shown_by };
 
     ghost kind = { timeline_kind };
+
+    ghost sized = { refl };
 
     ghost lawful = { record {
       starts = refl;
@@ -87,10 +83,6 @@ impl Sheet for Timeline {
           let swap = placed_swap m.rows (row_of x) (row_of y) (beside_posters x y side) in
           λ i. record { count = m.count + 1 + 1; rows = swap i };
     } };
-
-    fn capacity() -> u32 {
-        Self::PLACES
-    }
 
     fn letters(&self) -> u32 {
         self.rows.len() as u32

@@ -1,12 +1,18 @@
-use Rattle.std.proofs.Common.{sym, ◌∙◌, arith}
-use Rattle.seats.proofs.Accepted.{served}
-use Rattle.seats.proofs.Clocks.{some_places}
+use Rattle.std.proofs.Common.{length, Ok, ap, ◌∙◌}
+use Rattle.seats.specs.Outcomes.{carrier_check, taken_as}
 use Rattle.rooms.specs.States.{state}
-use Rattle.rooms.proofs.Rooms.{sound}
+use Rattle.rooms.proofs.Taking.{took}
 use Rattle.rooms.proofs.room.Room.take.Goals as goal
 
-pub draw_and_keep-requires : goal.draw_and_keep-requires
-draw_and_keep-requires g c =
-    let r = c.args.self.now in
-    let can = served (state r) _ _ _ c.in_ok-may_carry.ensures in
-    (omega (arith, some_places (state r) (sound r), can.holds_long), sym c.seats.ensures ∙ can.seats_same)
+pub returns : goal.returns
+returns g c =
+    let drew = c.in_ok-letter.ensures in
+    took (state c.args.self.now) _ c.args.holds.now (g.C.Carrier.meaning c.args.carrier.now) c.args.seat c.args.place (Ok (taken_as c.keep.result)) _ _ _
+    (c.in_ok-may_carry.ensures ∙ ap (carrier_check (state c.args.self.now) (length c.args.logs.now) (length c.args.holds.now)) c.seats.ensures) drew.answer (record {
+      letter = c.in_ok-letter.letter;
+      there = drew.leaves.1;
+      drawn = drew.leaves.0;
+      answer = ap (λ t. Ok t) c.keep.ensures.answer;
+      room = c.keep.ensures.room;
+      hold = c.keep.ensures.hold;
+    })
