@@ -32,20 +32,22 @@ enum Step {
 }
 
 // The step that eight bytes write: the call, a seat, a 16-bit number and a 32-bit one, the low byte first.
-fn read_step(bytes: &[u8]) -> Step {
-    match bytes {
-        [1, poster, low, high, a, b, c, d] => Step::Put {
-            poster: *poster,
-            number: u16::from_le_bytes([*low, *high]),
-            code: u32::from_le_bytes([*a, *b, *c, *d]),
-        },
-        [2, seat, _, _, a, b, c, d] => Step::Draw {
-            seat: *seat,
-            place: u32::from_le_bytes([*a, *b, *c, *d]),
-        },
-        [3, seat, ..] => Step::Waits { seat: *seat },
-        [4, poster, ..] => Step::Fits { poster: *poster },
-        _ => Step::Seats,
+impl From<&[u8]> for Step {
+    fn from(bytes: &[u8]) -> Step {
+        match *bytes {
+            [1, poster, low, high, a, b, c, d] => Step::Put {
+                poster,
+                number: u16::from_le_bytes([low, high]),
+                code: u32::from_le_bytes([a, b, c, d]),
+            },
+            [2, seat, _, _, a, b, c, d] => Step::Draw {
+                seat,
+                place: u32::from_le_bytes([a, b, c, d]),
+            },
+            [3, seat, ..] => Step::Waits { seat },
+            [4, poster, ..] => Step::Fits { poster },
+            _ => Step::Seats,
+        }
     }
 }
 
@@ -80,16 +82,16 @@ impl From<io::Error> for Stop {
 
 // The setting that ten bytes write, numbers with the low byte first: the seats of the lines, those of the spool, how many
 // letters are brought (16 bits), how many places a queue has (32) and how many bytes are brought (16).
-fn read_setting(head: &[u8]) -> Option<Setting> {
-    match head {
-        [line_seats, spool_seats, a, b, c, d, e, f, g, h] => Some(Setting {
-            line_seats: *line_seats,
-            spool_seats: *spool_seats,
-            letters: usize::from(u16::from_le_bytes([*a, *b])),
-            size: u32::from_le_bytes([*c, *d, *e, *f]),
-            bytes: usize::from(u16::from_le_bytes([*g, *h])),
-        }),
-        _ => None,
+impl From<&[u8; 10]> for Setting {
+    fn from(head: &[u8; 10]) -> Setting {
+        let [line_seats, spool_seats, a, b, c, d, e, f, g, h] = *head;
+        Setting {
+            line_seats,
+            spool_seats,
+            letters: usize::from(u16::from_le_bytes([a, b])),
+            size: u32::from_le_bytes([c, d, e, f]),
+            bytes: usize::from(u16::from_le_bytes([g, h])),
+        }
     }
 }
 
@@ -170,7 +172,7 @@ fn take_steps<C: Carrier<Body = Job>>(
         body: Job::Add(0),
     };
     for bytes in steps.chunks_exact(8) {
-        take_step(rt, carrier, &mut parts, read_step(bytes))?;
+        take_step(rt, carrier, &mut parts, Step::from(bytes))?;
     }
     Ok(())
 }
@@ -286,10 +288,8 @@ fn try_all(rt: &HostRuntime, setting: Setting, blank: Letter<Job>, steps: &[u8])
 fn main(rt: HostRuntime) -> io::Result<()> {
     let mut input = Vec::new(rt.alloc());
     let _count = rt.stdin().read_to_end(&mut input)?;
-    let bytes = input.as_slice();
-    let head = bytes.len().min(10);
-    match (read_setting(&bytes[0..head]), make_letter(0, 1, 0)) {
-        (Some(setting), Ok(blank)) => try_all(&rt, setting, blank, &bytes[head..]),
+    match (input.as_slice().split_first_chunk(), make_letter(0, 1, 0)) {
+        (Some((head, steps)), Ok(blank)) => try_all(&rt, Setting::from(head), blank, steps),
         _ => Err(io::Error::from(io::ErrorKind::InvalidInput)),
     }
 }
