@@ -35,6 +35,7 @@ fn drive<C: Carrier<Body = Job>>(rt: &HostRuntime, desk: &mut Desk<'_, C>) -> io
     let mut held = Vec::with_capacity(rt.alloc(), CHUNK)?;
     let mut lines = String::new(rt.alloc());
     let mut index = 0;
+    // The bound is there only because every loop has to end.
     for _ in 0..u64::MAX {
         held.clear();
         lines.clear();
@@ -79,12 +80,13 @@ fn main(rt: HostRuntime) -> io::Result<()> {
     let mut draft = Draft::new(1, 4);
     // Names are any numbers but 0.
     for name in 1..4 {
+        // A no would show at the opening.
         let _ = draft.enrol(name);
     }
     let carrier = Lines::new(&mut queues, 3, 4);
-    if draft.check_open(&logs, &holds, &carrier).is_err() {
-        return Err(io::Error::from(io::ErrorKind::InvalidInput));
-    }
+    draft
+        .check_open(&logs, &holds, &carrier)
+        .map_err(|_| io::Error::from(io::ErrorKind::InvalidInput))?;
     let room = draft.open(&logs, &holds, &carrier);
     let mut desk = Desk {
         room,

@@ -48,7 +48,7 @@ impl Say for Job {
     }
 }
 
-// What a body says.
+// What a body says. It stands in for the body, which is of another crate, so that its `Display` can be written here.
 #[derive(Clone, Copy)]
 struct Said<'a, B>(&'a B);
 

@@ -55,6 +55,7 @@ fn list<B: Say>(rt: &HostRuntime, body: B) -> io::Result<()> {
         poster: 0,
         body,
     };
+    // The bound is there only because every loop has to end.
     for _ in 0..u64::MAX {
         held.clear();
         lines.clear();

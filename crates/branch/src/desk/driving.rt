@@ -32,6 +32,7 @@ impl<C: Carrier<Body = Job>> Desk<'_, C> {
     fn post(&mut self, seat: u8, job: Job) -> Result<Outcome, Refusal>
         ensures { Follows (docket_calls (Post seat job) result) (standing C.Carrier.meaning self.old) (standing C.Carrier.meaning self.new) }
     {
+        // A table goes as `&` through a variable: the check has no rule for a `&mut` field lent as `&` beside one lent as `&mut`.
         let holds = &mut *self.holds;
         let docket = self.room.post(self.logs, holds, seat, job)?;
         Ok(self.dispatch(docket))
