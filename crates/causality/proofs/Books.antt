@@ -264,7 +264,7 @@ module _ {B : Type 0} (N Q s : ℕ) (m : Letter B) (w w' : World B) (h : History
   }
     where
       shown_not_post : (t : ℕ) (k : Letter B) → (posted t k ≡ shown s m) ⊎ (posted t k ∈ h) → k.poster ≡ t
-      shown_not_post t k (inl e) = let n : ◌≡◌ {A = ℕ} 0 1 = cc in absurd (omega arith)
+      shown_not_post t k (inl e) = absurd cc
       shown_not_post t k (inr i) = ok.posts t k i
 
 -- Opening, and the steps that change neither a clock nor a log.

@@ -19,10 +19,10 @@ use Rattle.causality.proofs.Holds.{Holds, never_stray}
 use Rattle.causality.proofs.Always.{Always, always}
 
 out_not_clear : ¬ (Out ≡ Clear)
-out_not_clear e = let n : ◌≡◌ {A = ℕ} 0 1 = cc in omega arith
+out_not_clear e = cc
 
 parked_not_clear : ¬ (Parked ≡ Clear)
-parked_not_clear e = let n : ◌≡◌ {A = ℕ} 0 1 = cc in omega arith
+parked_not_clear e = cc
 
 module _ {B : Type 0} where
   -- where the letter m stands on its way to seat t

@@ -61,8 +61,8 @@ module _ {A : Type 0} where
   pub split_last : (x y : A) (l a b : List A) → l ++ (y ∷ []) ≡ a ++ (x ∷ b)
       → ((a ≡ l) × (x ≡ y)) ⊎ ((b' : List A) × (l ≡ a ++ (x ∷ b')))
   split_last x y [] [] b e = inl (refl, cc)
-  split_last x y [] (z ∷ []) b e = let n : ◌≡◌ {A = ℕ} 0 1 = cc in absurd (omega arith)
-  split_last x y [] (z ∷ (u ∷ a)) b e = let n : ◌≡◌ {A = ℕ} 0 1 = cc in absurd (omega arith)
+  split_last x y [] (z ∷ []) b e = absurd cc
+  split_last x y [] (z ∷ (u ∷ a)) b e = absurd cc
   split_last x y (u ∷ l) [] b e = inr (l, cc)
   split_last x y (u ∷ l) (z ∷ a) b e = go (split_last x y l a b cc)
     where

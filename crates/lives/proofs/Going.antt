@@ -41,17 +41,17 @@ module _ {B : Type 0} where
 
 stray_so : (a b : Bool) → stray ≡ cond a stray (cond b repeat held) → a ≡ true
 stray_so true b e = refl
-stray_so false true e = let z : ◌≡◌ {A = ℕ} 0 1 = cc in absurd (omega arith)
-stray_so false false e = let z : ◌≡◌ {A = ℕ} 0 1 = cc in absurd (omega arith)
+stray_so false true e = absurd cc
+stray_so false false e = cc
 
 repeat_so : (a b : Bool) → repeat ≡ cond a stray (cond b repeat held) → (a ≡ false) × (b ≡ true)
-repeat_so true b e = let z : ◌≡◌ {A = ℕ} 0 1 = cc in absurd (omega arith)
+repeat_so true b e = absurd cc
 repeat_so false true e = (refl, refl)
-repeat_so false false e = let z : ◌≡◌ {A = ℕ} 0 1 = cc in absurd (omega arith)
+repeat_so false false e = absurd cc
 
 held_so : (a b : Bool) → held ≡ cond a stray (cond b repeat held) → (a ≡ false) × (b ≡ false)
-held_so true b e = let z : ◌≡◌ {A = ℕ} 0 1 = cc in absurd (omega arith)
-held_so false true e = let z : ◌≡◌ {A = ℕ} 0 1 = cc in absurd (omega arith)
+held_so true b e = absurd cc
+held_so false true e = absurd cc
 held_so false false e = (refl, refl)
 
 -- where the letter that is drawn waits
@@ -137,8 +137,8 @@ module _ {B : Type 0} (trace : Trace B) (w w' : Moment B) (lives : Lives trace w
 
   was_parked : (k : DocketState) → allows k Collect ≡ true → k ≡ Parked
   was_parked Parked e = refl
-  was_parked Clear e = let z : ◌≡◌ {A = ℕ} 0 1 = cc in absurd (omega arith)
-  was_parked Out e = let z : ◌≡◌ {A = ℕ} 0 1 = cc in absurd (omega arith)
+  was_parked Clear e = absurd cc
+  was_parked Out e = absurd cc
 
   collect_inside : (s : ℕ) (d : Slip) → Ok d ≡ collect_answer st s → s < st.count
   collect_inside s d e = grind (arith, nat_tests)

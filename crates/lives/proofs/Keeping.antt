@@ -51,7 +51,7 @@ among_posted : {L : Type 0} (s : ℕ) (m : L) (h : History L) → posted s m ∈
 among_posted s m [] i = absurd (in_none i)
 among_posted {L} s m (posted t k ∷ h) (here e) = here (ap letter_of e)
 among_posted s m (posted t k ∷ h) (there i) = there (among_posted s m h i)
-among_posted s m (shown t k ∷ h) (here e) = let z : ◌≡◌ {A = ℕ} 0 1 = cc in absurd (omega arith)
+among_posted s m (shown t k ∷ h) (here e) = absurd cc
 among_posted s m (shown t k ∷ h) (there i) = among_posted s m h i
 
 -- what was seen was seen where the events are told by names

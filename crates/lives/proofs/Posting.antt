@@ -21,8 +21,8 @@ use Rattle.lives.proofs.Views.{at_seat, box_of, docketed_kept, elsewhere, hold_e
 
 was_clear : (k : DocketState) → allows k Post ≡ true → k ≡ Clear
 was_clear Clear e = refl
-was_clear Out e = let z : ◌≡◌ {A = ℕ} 0 1 = cc in absurd (omega arith)
-was_clear Parked e = let z : ◌≡◌ {A = ℕ} 0 1 = cc in absurd (omega arith)
+was_clear Out e = absurd cc
+was_clear Parked e = absurd cc
 
 -- what a post that is accepted has tested, and what it answers
 record Accepted (st : RoomState) (logs s : ℕ) (d : Slip) : Type 0 where

@@ -24,8 +24,8 @@ use Rattle.lives.proofs.Splits.{First, first_at}
 
 pub was_out : (k : DocketState) → allows k Send ≡ true → k ≡ Out
 was_out Out e = refl
-was_out Clear e = let z : ◌≡◌ {A = ℕ} 0 1 = cc in absurd (omega arith)
-was_out Parked e = let z : ◌≡◌ {A = ℕ} 0 1 = cc in absurd (omega arith)
+was_out Clear e = absurd cc
+was_out Parked e = absurd cc
 
 -- what a docket that is good has been tested for
 pub record Good (st : RoomState) (d : Slip) : Type 0 where
@@ -42,9 +42,9 @@ served st logs holds seats e = grind (arith, nat_tests)
 three_yes : {X : Type 0} (a b : Result (Unit {0}) Reason) (o : Option (ℕ × X)) (x : X) → Ok x ≡ follows a (follows b (or_missing o))
     → (Ok tt ≡ a) × (Ok tt ≡ b) × ((k : ℕ) × (o ≡ Some (k, x)))
 three_yes (Ok yes') (Ok yes'') (Some (k, y)) x e = let is : x ≡ y = cc in (refl, refl, (k, ap (λ z. Some (k, z)) (sym is)))
-three_yes (Ok yes') (Ok yes'') None x e = let z : ◌≡◌ {A = ℕ} 0 1 = cc in absurd (omega arith)
-three_yes (Ok yes') (Err why) o x e = let z : ◌≡◌ {A = ℕ} 0 1 = cc in absurd (omega arith)
-three_yes (Err why) b o x e = let z : ◌≡◌ {A = ℕ} 0 1 = cc in absurd (omega arith)
+three_yes (Ok yes') (Ok yes'') None x e = absurd cc
+three_yes (Ok yes') (Err why) o x e = absurd cc
+three_yes (Err why) b o x e = absurd cc
 
 pub called : {B : Type 0} (p n : ℕ) (m : Letter B) → is_called p n m ≡ true → (m.poster ≡ p) × (number_of m ≡ n)
 called p n m e = (grind (arith, nat_tests), grind (arith, nat_tests))

@@ -29,8 +29,8 @@ not_ready st s m is can =
 
 both_yes : {X : Type 0} (c : Result (Unit {0}) Reason) (o : Option X) (x : X) → Ok x ≡ follows c (or_none_ready o) → (Ok tt ≡ c) × (Some x ≡ o)
 both_yes (Ok yes') (Some y) x e = (refl, cc)
-both_yes (Ok yes') None x e = let z : ◌≡◌ {A = ℕ} 0 1 = cc in absurd (omega arith)
-both_yes (Err why) o x e = let z : ◌≡◌ {A = ℕ} 0 1 = cc in absurd (omega arith)
+both_yes (Ok yes') None x e = absurd cc
+both_yes (Err why) o x e = absurd cc
 
 -- what a check of the tables and the seat that says yes has tested
 record Visited (st : RoomState) (logs holds s : ℕ) : Type 0 where

@@ -22,7 +22,7 @@ record From {X : Type 0} (f : X → Bool) (i : ℕ) (xs : List X) (k : ℕ) (x :
   found : First f xs at x
 
 from : {X : Type 0} (f : X → Bool) (i : ℕ) (xs : List X) (k : ℕ) (x : X) → first f i xs ≡ Some (k, x) → From f i xs k x
-from f i [] k x e = let z : ◌≡◌ {A = ℕ} 0 1 = cc in absurd (omega arith)
+from f i [] k x e = absurd cc
 from {X} f i (y ∷ ys) k x e =
     ⊎_elim
     (λ yes'.
@@ -63,7 +63,7 @@ pub none_passes : {X : Type 0} (f : X → Bool) (i : ℕ) (xs : List X) → firs
 none_passes f i [] e y j = absurd (in_none j)
 none_passes {X} f i (x ∷ xs) e y j =
     ⊎_elim
-    (λ yes'. let clash : Some (i, x) ≡ None = sym (cond-true (f x) (Some (i, x)) (first f (i + 1) xs) yes') ∙ e in let z : ◌≡◌ {A = ℕ} 0 1 = cc in absurd (omega arith))
+    (λ yes'. let clash : Some (i, x) ≡ None = sym (cond-true (f x) (Some (i, x)) (first f (i + 1) xs) yes') ∙ e in absurd cc)
     (λ no'. go no' (none_passes f (i + 1) xs (sym (cond-false (f x) _ _ no') ∙ e)) j)
     (cases_Bool (f x))
   where

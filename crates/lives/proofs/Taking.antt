@@ -96,10 +96,10 @@ module _ {B : Type 0} (w : Moment B) (fit : Fit w.room) (s : ℕ) (m : Letter B)
       let f = first_at (is_called m.poster (number_of m)) H i k (sym e) in
       let is = called m.poster (number_of m) k f.passes in
       among_held k (in_eq (sym f.whole) (in_middle k (take i H) (drop (suc i) H))) (record { poster = sym is.0; number = sym is.1 })
-  hit None e yes' = let z : ◌≡◌ {A = ℕ} 0 1 = cc in absurd (omega arith)
+  hit None e yes' = absurd cc
 
   miss : (o : Option (ℕ × Letter B)) → o ≡ first (is_called m.poster (number_of m)) 0 H → is_some o ≡ false → (k : Letter B) → k ∈ H → ¬ (SameLetter m k)
-  miss (Some (i, k)) e no' j l same = let z : ◌≡◌ {A = ℕ} 0 1 = cc in absurd (omega arith)
+  miss (Some (i, k)) e no' j l same = absurd cc
   miss None e no' j l same =
       let clash : true ≡ false = sym (and_from _ _ (eq-eqb j.poster m.poster (sym same.poster)) (eq-eqb (number_of j) (number_of m) (sym same.number)))
       ∙ none_passes (is_called m.poster (number_of m)) 0 H (sym e) j l in

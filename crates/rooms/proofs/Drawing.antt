@@ -16,7 +16,7 @@ use Rattle.rooms.specs.Drawing.{places_check, sheet_outcome}
 -- a yes leaves nothing to be kept
 pub yes_kept : {X : Type 0} (r : Result (Unit {0}) Refusal) (x y : X) → told (λ u. u) r ≡ Ok tt → Kept r x y
 yes_kept (Ok done) x y e = tt
-yes_kept (Err why) x y e = absurd (let z : ◌≡◌ {A = ℕ} 0 1 = cc in omega arith)
+yes_kept (Err why) x y e = absurd cc
 
 -- what drawing up a log comes to, and that it is accepted
 pub record GoesUp {M B : Type 0} (kind : Kind M B) (log : List (Letter B)) (outcome : Result M Reason) : Type 0 where

@@ -48,4 +48,4 @@ pub record Says {X : Type 0} (r : Result (Unit {0}) Reason) (x y : X) : Type 0 w
 
 pub says : {X : Type 0} (r : Result (Unit {0}) Reason) (x y : X) → Ok x ≡ answered r y → Says r x y
 says (Ok done) x y e = record { can = refl; is = cc }
-says (Err why) x y e = absurd (let z : ◌≡◌ {A = ℕ} 0 1 = cc in omega arith)
+says (Err why) x y e = absurd cc
