@@ -34,9 +34,9 @@ follows_led None w w' led = absurd led
 
 -- a step leads on
 pub turn_led : (s : ℕ) (call : Call) (w : Moment Job) (o : Result Outcome Refusal) (w' : Moment Job) → Turn s call w o w' → Led w w'
-turn_led s (calls.Post (Ok job)) w o w' turn = follows_led (docket_calls w.room.number (Post s job) o) w w' turn
+turn_led s (calls.Post (Ok job)) w o w' turn = follows_led (docket_calls (Post s job) o) w w' turn
 turn_led s (calls.Post (Err why)) w o w' turn = subst (Led w) (sym turn.1) (led_nowhere w)
-turn_led s calls.Collect w o w' turn = follows_led (docket_calls w.room.number (Collect s) o) w w' turn
+turn_led s calls.Collect w o w' turn = follows_led (docket_calls (Collect s) o) w w' turn
 turn_led s (calls.Take place) w o w' turn = follows_led (take_calls (Take s place) o) w w' turn
 turn_led s calls.Show w o w' turn = follows_led (show_calls (Show s) o) w w' turn
 

@@ -4,18 +4,14 @@ use Rattle.std.specs.List.{flat_map}
 use Rattle.letters.specs.declared.letter.Letter.{Letter}
 use Rattle.letters.specs.declared.refusal.Refusal.{Refusal}
 use Rattle.letters.specs.Letters.{number_of}
+use Rattle.letters.specs.Names.{name_text}
 use Rattle.letters.specs.Refusals.{reason}
-use Rattle.seats.specs.declared.taken.Taken.{Taken}
-use Rattle.seats.specs.declared.taken.Taken.TheVariants as takings
+use Rattle.seats.specs.Takings.{taken_text}
 use Rattle.branch.specs.declared.step.Call.{Call}
 use Rattle.branch.specs.declared.step.Call.TheVariants as calls
 use Rattle.branch.specs.declared.step.Step.{Step}
 use Rattle.branch.specs.declared.outcome.Outcome.{Outcome}
 use Rattle.branch.specs.declared.outcome.Outcome.TheVariants as outcomes
-
--- a letter's name, poster.number
-abbrev pub name_text : ℕ → ℕ → List ℕ
-name_text p n = decimal p ++ (codes "." ++ decimal n)
 
 -- the name of a call
 abbrev pub call_name : Call → List ℕ
@@ -33,15 +29,10 @@ abbrev pub step_head : ℕ → Step → List ℕ
 step_head index step = decimal index ++ (call_word step.call ++ (decimal step.seat ++ codes " "))
 
 -- what it came to
-abbrev pub taken_words : Taken → List ℕ
-taken_words (takings.Stray id) = codes "stray " ++ name_text id.poster id.number
-taken_words (takings.Repeat id) = codes "repeat " ++ name_text id.poster id.number
-taken_words (takings.Held id) = codes "held " ++ name_text id.poster id.number
-
 abbrev pub outcome_words : Outcome → List ℕ
-outcome_words (outcomes.Sent p n) = codes "sent " ++ name_text p n
-outcome_words (outcomes.Parked p n why) = codes "parked " ++ name_text p n
-outcome_words (outcomes.Taken taken) = taken_words taken
+outcome_words (outcomes.Sent d) = codes "sent " ++ name_text d.seat d.number
+outcome_words (outcomes.Parked d why) = codes "parked " ++ name_text d.seat d.number
+outcome_words (outcomes.Taken taken) = taken_text taken
 outcome_words (outcomes.Shown id) = codes "shown " ++ name_text id.poster id.number
 
 abbrev pub outcome_says : Result Outcome Refusal → List ℕ

@@ -24,10 +24,7 @@ pub fn add_step(
     let Step { call, seat } = step;
     match outcome {
         Ok(outcome) => writeln!(line, "{index} {call} {seat} {outcome}"),
-        Err(why) => {
-            let number = why.number();
-            writeln!(line, "{index} {call} {seat} refused {number}")
-        }
+        Err(why) => writeln!(line, "{index} {call} {seat} refused {why}"),
     }
 }
 
@@ -47,9 +44,8 @@ impl Display for Names<'_> {
 
     fn fmt<W: fmt::Write>(&self, f: &mut Formatter<W>) -> fmt::Result {
         for letter in self.0 {
-            let poster = letter.poster();
-            let number = letter.number();
-            write!(f, " {poster}.{number}")?;
+            let id = letter.id();
+            write!(f, " {id}")?;
         }
         Ok(())
     }

@@ -62,6 +62,7 @@ fn run<K: Sheet<Body = Job>, C: Carrier<Body = Job>>(
 // Prints the logs of the first seats.
 fn print_logs<C>(rt: &HostRuntime, desk: &Desk<'_, C>, seats: u8) -> io::Result<()> {
     let mut lines = String::new(rt.alloc());
+    // A seat's number is what the call takes; nothing is looked up by it here.
     for seat in 0..seats {
         if let Ok(log) = desk.room.log(desk.logs, desk.holds, seat) {
             add_log(&mut lines, seat, log)?;
@@ -76,6 +77,7 @@ fn main(rt: HostRuntime) -> io::Result<()> {
     let mut holds = [blank; 36];
     let mut queues = [blank; 12];
     let mut draft = Draft::new(1, 4);
+    // Names are any numbers but 0.
     for name in 1..4 {
         let _ = draft.enrol(name);
     }

@@ -16,17 +16,18 @@ impl TryFrom<&[u8]> for Step {
 
     fn try_from(bytes: &[u8]) -> Result<Step, NoStep> {
         let (call, seat) = match bytes {
-            [1, seat, kind, poster, a, b, c, d] => {
-                (Call::Post(read_job(*kind, *poster, [*a, *b, *c, *d])), seat)
+            &[1, seat, kind, poster, a, b, c, d] => {
+                (Call::Post(read_job(kind, poster, [a, b, c, d])), seat)
             }
-            [2, seat, _, _, _, _, _, _] => (Call::Collect, seat),
-            [3, seat, low, high, _, _, _, _] => {
-                (Call::Take(u16::from_le_bytes([*low, *high])), seat)
-            }
-            [4, seat, _, _, _, _, _, _] => (Call::Show, seat),
+            &[2, seat, _, _, _, _, _, _] => (Call::Collect, seat),
+            &[3, seat, low, high, _, _, _, _] => (
+                Call::Take(u16::from_le_bytes([low, high])),
+                seat,
+            ),
+            &[4, seat, _, _, _, _, _, _] => (Call::Show, seat),
             _ => return Err(NoStep),
         };
-        Ok(Step { call, seat: *seat })
+        Ok(Step { call, seat })
     }
 }
 

@@ -7,7 +7,7 @@ use letters::refusal::Refusal;
 use std::fmt;
 use std::fmt::{Display, Formatter};
 
-// What is asked of the room.
+// What is asked of the room: data, as it is read from bytes, and no closure.
 #[derive(Clone, Copy)]
 pub enum Call {
     // the job to post; or, where the form is bad, why the post is refused

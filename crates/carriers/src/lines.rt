@@ -5,7 +5,8 @@ use letters::letter::Letter;
 
 pub mod carrying;
 
-// A queue of `size` places for each of the seats, side by side in one lent row of letters.
+// A queue of `size` places for each of the seats, side by side in one lent row of letters. In fixed memory: sixteen counts,
+// of which as many are in use as there are seats.
 #[derive(Drop)]
 pub struct Lines<'a, B> {
     places: &'a mut [Letter<B>],

@@ -7,13 +7,10 @@ use Rattle.letters.specs.declared.text.Text.{Text}
 use Rattle.letters.specs.Forms.{Form}
 use Rattle.letters.specs.declared.parts.Parts.{Parts}
 use Rattle.letters.specs.Letters.{entry_at}
+use Rattle.letters.specs.Names.{name_text}
 use Rattle.letters.specs.Texts.{text_bytes}
 use Rattle.records.specs.Readers.{Found, at_end, right, wrong}
 use Rattle.records.specs.Records.{parts_written, record_size}
-
--- a letter's name, poster.number
-abbrev pub name_text : ℕ → ℕ → List ℕ
-name_text p n = decimal p ++ (codes "." ++ decimal n)
 
 -- a comma and a number
 abbrev pub after_comma : ℕ → List ℕ

@@ -1,13 +1,12 @@
 // The lines of a listing.
 ghost use Rattle.std.specs.Prelude.{◌≡◌, ℕ, List, ◌++◌, OnOk, Some, string_bytes};
 ghost use Rattle.std.specs.Fmt.{WritesOnOk};
-ghost use Rattle.letters.specs.Letters.{parts};
 ghost use Rattle.letters.specs.Texts.{text_bytes};
 ghost use Rattle.listing.specs.Lines.{bad_line, commas, count_line, job_says, letter_line, text_says};
 
-use crate::stepping::Page;
 use letters::body::Body;
 use letters::job::Job;
+use letters::parts::Parts;
 use letters::text::Text;
 use std::alloc::AllocError;
 use std::fmt::{Display, Formatter};
@@ -44,11 +43,7 @@ impl Say for Job {
     fn say<W: fmt::Write>(&self, f: &mut Formatter<W>) -> fmt::Result {
         match self {
             Job::Add(code) => write!(f, "add {code}"),
-            Job::Strike(id) => {
-                let poster = id.poster();
-                let number = id.number();
-                write!(f, "strike {poster}.{number}")
-            }
+            Job::Strike(id) => write!(f, "strike {id}"),
         }
     }
 }
@@ -84,13 +79,13 @@ impl Display for Entries<'_> {
 }
 
 // Adds the line of a letter.
-pub fn add_letter<B: Say>(line: &mut String, index: u64, page: &Page<B>) -> Result<(), AllocError>
-    ensures { OnOk result (string_bytes line.new ≡ string_bytes line.old ++ letter_line B.says index (parts page.now.stamp page.now.poster page.now.body)) }
+pub fn add_letter<B: Say>(line: &mut String, index: u64, parts: &Parts<B>) -> Result<(), AllocError>
+    ensures { OnOk result (string_bytes line.new ≡ string_bytes line.old ++ letter_line B.says index parts.now) }
 {
-    let poster = page.poster;
-    let number = page.stamp.entry(poster);
-    let entries = Entries(&page.stamp.entries);
-    let body = Said(&page.body);
+    let poster = parts.poster;
+    let number = parts.stamp.entry(poster);
+    let entries = Entries(&parts.stamp.entries);
+    let body = Said(&parts.body);
     writeln!(line, "{index} {poster}.{number} {entries} {body}")
 }
 

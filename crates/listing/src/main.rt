@@ -1,10 +1,12 @@
 // Lists a file of letter records, or says where it is damaged.
 #![tactic(auto)]
 
+use crate::kind::Kind;
 use crate::line::{Say, add_count};
-use crate::stepping::{Page, add_next};
+use crate::stepping::add_next;
 use letters::body::Body;
 use letters::job::Job;
+use letters::parts::Parts;
 use letters::stamp::Stamp;
 use letters::text::Text;
 use records::fault::Fault;
@@ -13,9 +15,9 @@ use records::record::RECORD_SIZE;
 use std::alloc::AllocError;
 use std::io::Read;
 use std::process::ExitCode;
-use std::str::FromStr;
 use std::{env, io};
 
+mod kind;
 mod line;
 mod stepping;
 
@@ -29,12 +31,12 @@ const CHUNK: usize = HELD * RECORD_SIZE;
 fn add_held<B: Say>(
     bytes: &[u8],
     letters: &mut u64,
-    page: &mut Page<B>,
+    parts: &mut Parts<B>,
     lines: &mut String,
 ) -> Result<Result<(), Fault>, AllocError> {
     let mut reader = Reader::new(bytes);
     for _ in 0..HELD {
-        match add_next(&mut reader, *letters, page, lines)? {
+        match add_next(&mut reader, *letters, parts, lines)? {
             Ok(Some(_)) => *letters = letters.saturating_add(1),
             Ok(None) => break,
             Err(fault) => return Ok(Err(fault)),
@@ -48,7 +50,7 @@ fn list<B: Say>(rt: &HostRuntime, body: B) -> io::Result<()> {
     let mut held = Vec::with_capacity(rt.alloc(), CHUNK)?;
     let mut lines = String::new(rt.alloc());
     let mut letters = 0;
-    let mut page = Page {
+    let mut parts = Parts {
         stamp: Stamp { entries: [0; 16] },
         poster: 0,
         body,
@@ -57,7 +59,7 @@ fn list<B: Say>(rt: &HostRuntime, body: B) -> io::Result<()> {
         held.clear();
         lines.clear();
         rt.stdin().take(CHUNK as u64).read_to_end(&mut held)?;
-        let listed = add_held(held.as_slice(), &mut letters, &mut page, &mut lines)?;
+        let listed = add_held(held.as_slice(), &mut letters, &mut parts, &mut lines)?;
         rt.print(&lines)?;
         if listed.is_err() || held.len() < CHUNK {
             break;
@@ -69,38 +71,13 @@ fn list<B: Say>(rt: &HostRuntime, body: B) -> io::Result<()> {
 }
 
 // Which kind of body the one argument asks for.
-#[derive(Clone, Copy)]
-enum Kind {
-    Text,
-    Job,
-}
-
-// A word that names no kind of body.
-#[derive(Clone, Copy)]
-struct UnknownKind;
-
-impl FromStr for Kind {
-    type Err = UnknownKind;
-
-    fn from_str(word: &str) -> Result<Kind, UnknownKind> {
-        match word {
-            "text" => Ok(Kind::Text),
-            "job" => Ok(Kind::Job),
-            _ => Err(UnknownKind),
-        }
-    }
-}
-
 fn kind_asked(rt: &HostRuntime) -> Option<Kind> {
-    let Ok(mut args) = env::args(rt) else {
-        return None;
-    };
+    let mut args = env::args(rt).ok()?;
     let _program = args.next();
-    let word = args.next()?;
-    if args.next().is_some() {
-        return None;
+    match (args.next(), args.next()) {
+        (Some(word), None) => word.as_str().parse().ok(),
+        _ => None,
     }
-    word.as_str().parse().ok()
 }
 
 // Lists what the arguments ask for, or says how the program is used.

@@ -4,32 +4,24 @@ ghost use Rattle.records.specs.Readers.{ahead, found, next_answer, told_fault};
 ghost use Rattle.listing.specs.Lines.{step_line};
 
 use crate::line::{Say, add_fault, add_letter};
-use letters::stamp::Stamp;
+use letters::parts::Parts;
 use records::fault::Fault;
 use records::reader::Reader;
 use std::alloc::AllocError;
-
-// The parts of a letter, as a reader fills them.
-#[derive(Drop)]
-pub struct Page<B> {
-    pub stamp: Stamp,
-    pub poster: u8,
-    pub body: B,
-}
 
 // Reads the next record and adds its line, under the index given; at the end it adds nothing. Answers what the reader did.
 pub fn add_next<B: Say>(
     reader: &mut Reader<B>,
     index: u64,
-    page: &mut Page<B>,
+    parts: &mut Parts<B>,
     line: &mut String,
 ) -> Result<Result<Option<usize>, Fault>, AllocError>
     ensures answer { IfOk result (λ read. told_fault read ≡ next_answer reader.old.index (found B.form (ahead reader.old))) }
     ensures line { OnOk result (string_bytes line.new ≡ string_bytes line.old ++ step_line B.form B.says index (ahead reader.old) (found B.form (ahead reader.old))) }
 {
-    match reader.next(&mut page.stamp, &mut page.poster, &mut page.body) {
+    match reader.next(parts) {
         Ok(Some(read)) => {
-            add_letter(line, index, page)?;
+            add_letter(line, index, parts)?;
             Ok(Ok(Some(read)))
         }
         Ok(None) => Ok(Ok(None)),

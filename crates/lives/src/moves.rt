@@ -1,7 +1,7 @@
 // What can be asked of a room.
 use seats::slip::Slip;
 
-// A step with what it brings. A docket is brought by its numbers.
+// A step with what it brings: data, so that steps can be listed and read in, and no closure. A docket is brought by its numbers.
 #[derive(Clone, Copy)]
 pub enum Move<B> {
     Post(u8, B),

@@ -33,7 +33,8 @@ fn assemble(stamp: &[u8; 32], header: &[u8; 4], body: &[u8; BODY_SPACE]) -> [u8;
     record
 }
 
-// Fills the lent parts with those of the letter whose record stands at the front, or answers the first wrong byte.
+// Fills the lent parts with those of the letter whose record stands at the front, or answers the first wrong byte. That is a
+// place in the record, a number and no kind of error.
 pub fn read_record<B: Body>(bytes: &[u8], parts: &mut Parts<B>) -> Result<(), u8>
     ensures { RecordRead B.form bytes.now parts.old parts.new result }
 {

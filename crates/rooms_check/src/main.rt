@@ -136,6 +136,7 @@ fn print_seats(
     holds: &[Letter<Job>],
     seats: u8,
 ) -> io::Result<()> {
+    // A seat's number is what the calls take, here and below; nothing is looked up by it.
     for seat in 0..seats {
         print_log(rt, room, logs, holds, seat)?;
         tell(rt, print_jobs(rt, room, logs, holds, seat))?;

@@ -82,10 +82,6 @@ impl Seat {
     pub fn log_len(&self) -> u32
         ensures { result ≡ log_length self.now }
     {
-        self.clock
-            .entries
-            .iter()
-            .map(|number| u32::from(*number))
-            .sum()
+        self.clock.sum()
     }
 }

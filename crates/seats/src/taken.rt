@@ -6,7 +6,7 @@ use letters::letter_id::LetterId;
 use std::fmt;
 
 // The answer of a take, with the letter's name.
-#[derive(Clone, Copy)]
+#[derive(Clone, Copy, PartialEq, Eq)]
 pub enum Taken {
     // thrown away: it cannot be a letter for this seat, or the hold is full
     Stray(LetterId),
@@ -21,9 +21,9 @@ impl fmt::Display for Taken {
 
     fn fmt<W: fmt::Write>(&self, f: &mut fmt::Formatter<W>) -> fmt::Result {
         match self {
-            Taken::Stray(id) => write!(f, "stray {}.{}", id.poster(), id.number()),
-            Taken::Repeat(id) => write!(f, "repeat {}.{}", id.poster(), id.number()),
-            Taken::Held(id) => write!(f, "held {}.{}", id.poster(), id.number()),
+            Taken::Stray(id) => write!(f, "stray {id}"),
+            Taken::Repeat(id) => write!(f, "repeat {id}"),
+            Taken::Held(id) => write!(f, "held {id}"),
         }
     }
 }

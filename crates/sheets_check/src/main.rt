@@ -83,7 +83,7 @@ fn work<K: Sheet>(sheet: &mut K, log: &[Letter<K::Body>], order: Order) -> Resul
 fn print_answer(rt: &HostRuntime, answer: Result<(), Refusal>) -> io::Result<()> {
     match answer {
         Ok(()) => println!(rt; "done"),
-        Err(refusal) => println!(rt; "refused {}", refusal.number()),
+        Err(refusal) => println!(rt; "refused {refusal}"),
     }
 }
 

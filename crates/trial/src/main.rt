@@ -20,7 +20,7 @@ const LETTERS: usize = 64;
 
 const BYTES: usize = 1024;
 
-// What a carrier is asked.
+// What a carrier is asked: data, as it is read from bytes, and no closure.
 #[derive(Clone, Copy)]
 enum Step {
     // puts a letter that adds a job

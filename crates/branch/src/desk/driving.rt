@@ -14,6 +14,7 @@ use carriers::carrier::Carrier;
 use letters::job::Job;
 use letters::refusal::Refusal;
 use rooms::docket::{Docket, Returned};
+use seats::slip::Slip;
 
 impl<C: Carrier<Body = Job>> Desk<'_, C> {
     // Makes one step, and answers what it came to. A docket is sent at once, and parked where that is refused.
@@ -29,7 +30,7 @@ impl<C: Carrier<Body = Job>> Desk<'_, C> {
     }
 
     fn post(&mut self, seat: u8, job: Job) -> Result<Outcome, Refusal>
-        ensures { Follows (docket_calls (state self.old.room).number (Post seat job) result) (standing C.Carrier.meaning self.old) (standing C.Carrier.meaning self.new) }
+        ensures { Follows (docket_calls (Post seat job) result) (standing C.Carrier.meaning self.old) (standing C.Carrier.meaning self.new) }
     {
         let holds = &mut *self.holds;
         let docket = self.room.post(self.logs, holds, seat, job)?;
@@ -37,7 +38,7 @@ impl<C: Carrier<Body = Job>> Desk<'_, C> {
     }
 
     fn collect(&mut self, seat: u8) -> Result<Outcome, Refusal>
-        ensures { Follows (docket_calls (state self.old.room).number (Collect seat) result) (standing C.Carrier.meaning self.old) (standing C.Carrier.meaning self.new) }
+        ensures { Follows (docket_calls (Collect seat) result) (standing C.Carrier.meaning self.old) (standing C.Carrier.meaning self.new) }
     {
         let docket = self.room.collect(seat)?;
         Ok(self.dispatch(docket))
@@ -48,15 +49,18 @@ impl<C: Carrier<Body = Job>> Desk<'_, C> {
         requires { good_slip (state self.old.room) (slip docket) ≡ true }
         ensures { Dispatched (slip docket) (standing C.Carrier.meaning self.old) result (standing C.Carrier.meaning self.new) }
     {
-        let seat = docket.seat();
-        let number = docket.number();
+        let slip = Slip {
+            room: docket.room(),
+            seat: docket.seat(),
+            number: docket.number(),
+        };
         let logs = &mut *self.logs;
         let holds = &mut *self.holds;
         match self.room.send(logs, holds, &mut self.carrier, docket) {
-            Ok(()) => Outcome::Sent(seat, number),
+            Ok(()) => Outcome::Sent(slip),
             Err(Returned { docket, refusal }) => {
                 self.room.park(docket).unwrap();
-                Outcome::Parked(seat, number, refusal)
+                Outcome::Parked(slip, refusal)
             }
         }
     }

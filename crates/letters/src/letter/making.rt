@@ -1,5 +1,5 @@
 // Making letters, and reading their parts.
-ghost use Rattle.std.specs.Prelude.{◌≡◌, Ok};
+ghost use Rattle.std.specs.Prelude.{◌≡◌, sum, Ok};
 ghost use Rattle.letters.specs.Letters.{entry_at, letter_answer, letter_check, letter_name, number_of, parts, parts_of};
 ghost use Rattle.letters.specs.Names.{name_of};
 ghost use Rattle.letters.specs.Refusals.{told};
@@ -19,6 +19,13 @@ impl Stamp {
             return 0;
         }
         self.entries[seat as usize]
+    }
+
+    // The sum of the entries: of a clock, how many letters its seat has posted and shown.
+    pub fn sum(&self) -> u32
+        ensures { result ≡ sum self.now.entries }
+    {
+        self.entries.iter().map(|entry| u32::from(*entry)).sum()
     }
 
     // Whether a letter of this poster can have the stamp; 20 where the poster is no seat or its entry is 0.

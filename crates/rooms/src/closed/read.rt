@@ -12,6 +12,7 @@ use letters::letter::Letter;
 use letters::refusal::Refusal;
 use sheets::sheet::Sheet;
 
+// Each hands on to the room's own: a closed room is a type of its own, with these calls and no others.
 impl ClosedRoom {
     // The letters of a seat's log, from the top: a part of the log table. Refused with 5, 8.
     pub fn log<'t, B: Body>(

@@ -1,5 +1,5 @@
 // What a timeline shows, and how letters are entered there.
-ghost use Rattle.std.specs.Prelude.{◌≡◌, ◌+◌, length, sum, refl};
+ghost use Rattle.std.specs.Prelude.{◌≡◌, ◌+◌, length, refl};
 ghost use Rattle.sheets.specs.Pages.{page_count};
 ghost use Rattle.sheets.specs.Timelines.{Shown, no_rows, row_after, row_of, shown_by, timeline_kind};
 ghost use Rattle.sheets.specs.Beside.{beside_posters};
@@ -13,7 +13,6 @@ use crate::timeline::Timeline;
 use arrayvec::ArrayVec;
 use letters::letter::Letter;
 use letters::refusal::Refusal;
-use letters::stamp::Stamp;
 use letters::text::Text;
 
 impl Placed for Row {
@@ -24,20 +23,13 @@ impl Placed for Row {
     }
 }
 
-// The sum of a stamp's entries.
-fn rank(stamp: &Stamp) -> u32
-    ensures { result ≡ sum stamp.now.entries }
-{
-    stamp.entries.iter().map(|entry| u32::from(*entry)).sum()
-}
-
 impl Row {
     // The row of a letter.
     pub fn of(letter: &Letter<Text>) -> Row
         ensures { result ≡ row_of letter.now }
     {
         Row {
-            rank: rank(letter.stamp()),
+            rank: letter.stamp().sum(),
             poster: letter.poster(),
             number: letter.number(),
             text: *letter.body(),

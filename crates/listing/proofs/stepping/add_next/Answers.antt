@@ -1,6 +1,5 @@
 use Rattle.std.proofs.Common.{◌≡◌, ◌++◌, Some, None, Ok, Err, string_bytes, sym, ap, ◌∙◌}
 use Rattle.std.proofs.lemmas.List.{append-nil}
-use Rattle.letters.specs.Letters.{parts}
 use Rattle.records.specs.Readers.{ahead, at_end, found, next_parts, right, wrong}
 use Rattle.listing.specs.Lines.{letter_line}
 use Rattle.listing.proofs.Found.{found_told}
@@ -9,9 +8,8 @@ use Rattle.listing.proofs.stepping.add_next.Goals as goal
 pub returns-in_ok-add_letter-in-Ok-Some-clause-line : goal.returns-in_ok-add_letter-in-Ok-Some-clause-line
 returns-in_ok-add_letter-in-Ok-Some-clause-line g c =
     let bs = ahead c.args.reader.now in
-    let was = parts c.args.page.now.stamp c.args.page.now.poster c.args.page.now.body in
     let is : found g.B.Body.form bs ≡ right = found_told _ _ _ (Ok (Some c.in-Ok-Some.read)) c.next.ensures.answer cc in
-    let filled = c.next.ensures.filled ∙ ap (next_parts g.B.Body.form bs was) is in
+    let filled = c.next.ensures.filled ∙ ap (next_parts g.B.Body.form bs c.args.parts.now) is in
     rw is (c.in_ok-add_letter-in-Ok-Some.ensures ∙ ap (λ p. string_bytes c.args.line.now ++ letter_line g.B.Say.says c.args.index p) filled)
 
 pub returns-in-Ok-None-clause-line : goal.returns-in-Ok-None-clause-line

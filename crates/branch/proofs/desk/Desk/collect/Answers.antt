@@ -1,12 +1,19 @@
-use Rattle.std.proofs.Common.{refl, ap, rules}
+use Rattle.std.proofs.Common.{◌≡◌, ◌≤◌, length, refl, ap, rules}
 use Rattle.std.proofs.lemmas.Result.{err_from_is_err_and}
 use Rattle.lives.specs.declared.moves.Move.TheVariants.{Collect}
 use Rattle.lives.specs.Traces.{dockets}
 use Rattle.lives.specs.Worked.{further, moment, nowhere}
 use Rattle.rooms.specs.States.{slip, state}
 use Rattle.branch.specs.Desks.{standing}
-use Rattle.branch.proofs.Dispatching.{dispatch_follows}
+use Rattle.branch.proofs.Dispatching.{collect_good, dispatch_follows}
 use Rattle.branch.proofs.desk.Desk.collect.Goals as goal
+
+pub dispatch-requires : goal.dispatch-requires
+dispatch-requires g c =
+    let w = standing g.C.Carrier.meaning c.args.self.now in
+    let sized : length w.room.seats ≡ 16 = search rules in
+    let few : w.room.count ≤ 16 = search rules in
+    collect_good w.room (state c.collect.new.self) sized few c.args.seat (slip c.in_ok-docket.docket) c.in_ok-docket.ensures.answer c.collect.ensures.room
 
 pub returns-in_err-docket : goal.returns-in_err-docket
 returns-in_err-docket g c =
@@ -21,5 +28,5 @@ returns g c =
     let d = slip c.in_ok-docket.docket in
     let collected = c.in_ok-docket.ensures in
     dispatch_follows (Collect c.args.seat) d w (moment (state c.collect.new.self) w.logs w.holds w.carrier) (standing g.C.Carrier.meaning c.dispatch.new.self)
-    c.dispatch.result (search rules)
+    c.dispatch.result
     (record { answers = ap dockets collected.answer; room = c.collect.ensures.room; logs = refl; holds = refl; carrier = refl }) c.dispatch.ensures
