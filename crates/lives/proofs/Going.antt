@@ -23,7 +23,8 @@ use Rattle.lives.specs.declared.moves.Move.{Move}
 use Rattle.lives.specs.declared.moves.Move.TheVariants as moves
 use Rattle.lives.specs.Traces.{Answer, Trace, done, docket, dockets, does, events, happened, made, posting, postings, refused, showed, shows, takes, with_step}
 use Rattle.lives.specs.Worked.{Leads, Moment, Step, Worked, further, moment, nowhere}
-use Rattle.lives.proofs.Clocks.{Fit, still_fit}
+use Rattle.seats.specs.Keeping.{Sound}
+use Rattle.lives.proofs.Clocks.{still_sound}
 use Rattle.lives.proofs.Lives.{Lives, arrives}
 use Rattle.lives.proofs.Opening.{begins}
 use Rattle.lives.proofs.Posting.{its_body, post_inside, post_number, post_poster, posted_kept, posts_step}
@@ -64,7 +65,7 @@ module _ {B : Type 0} (trace : Trace B) (w w' : Moment B) (lives : Lives trace w
 
   -- a step that leads to u, and neither posts nor shows
   quiet_on : (move : Move B) (answer' : Answer) → happened move answer' (events trace) ≡ events trace → with_step move answer' (postings trace) ≡ postings trace
-      → (u : Moment B) → Fit u.room → start u.room u.room.count ≤ length u.logs → start u.room u.room.count ≤ length u.holds
+      → (u : Moment B) → Sound u.room → start u.room u.room.count ≤ length u.logs → start u.room u.room.count ≤ length u.holds
       → Run u.room.count u.room.quota (view u) lives.past
       → Lives (made move answer' ∷ trace) u
   quiet_on move answer' no-event no-posting u fit logs holds run = record {
@@ -87,7 +88,7 @@ module _ {B : Type 0} (trace : Trace B) (w w' : Moment B) (lives : Lives trace w
       arrives trace (docket_moment w lives.fit s inside event c') move answer' answer w' is
       (same_moment w' (with_seat st s (docketed (seat_at st s) event)) w.logs w.holds c' room logs holds carrier)
       (quiet_on move answer' no-event no-posting (docket_moment w lives.fit s inside event c')
-      (still_fit st lives.fit s inside _ (docketed_kept w lives.fit s inside event c')) lives.logs lives.holds
+      (still_sound st lives.fit s _ (docketed_kept w lives.fit s inside event c')) lives.logs lives.holds
       (runs.more lives.run step))
 
   -- a step that was refused
@@ -111,7 +112,7 @@ module _ {B : Type 0} (trace : Trace B) (w w' : Moment B) (lives : Lives trace w
       arrives trace (moment (posted_room st s) w'.logs w.holds w.carrier) (moves.Post s body) (docket d) answer w' is
       (same_moment w' (posted_room st s) w'.logs w.holds w.carrier room refl holds carrier)
       (record {
-        fit = still_fit st lives.fit s inside _ (posted_kept w lives.fit w'.logs s body d e logs);
+        fit = still_sound st lives.fit s _ (posted_kept w lives.fit w'.logs s body d e logs);
         logs = omega (arith, lives.logs, size);
         holds = lives.holds;
         past = posted s m ∷ lives.past;
@@ -183,7 +184,7 @@ module _ {B : Type 0} (trace : Trace B) (w w' : Moment B) (lives : Lives trace w
       arrives trace (shown_moment w lives.fit s k m e) (moves.Show s) (showed (letter_name m)) answer w' is
       (same_moment w' (show_room st (Ok (k, m)) s) (show_logs st (Ok (k, m)) s w.logs) (show_holds st (Ok (k, m)) s w.holds) w.carrier room logs holds carrier)
       (record {
-        fit = still_fit st lives.fit s inside _ (shown_kept w lives.fit s k m e);
+        fit = still_sound st lives.fit s _ (shown_kept w lives.fit s k m e);
         logs = omega (arith, lives.logs, show_logs_long w lives.fit s k m e);
         holds = omega (arith, lives.holds, show_holds_long w lives.fit s k m e);
         past = shown s m ∷ lives.past;
@@ -228,7 +229,7 @@ module _ {B : Type 0} (trace : Trace B) (w w' : Moment B) (lives : Lives trace w
       arrives trace u (moves.Take s place) answer answer w' refl
       (same_moment w' u.room w.logs u.holds w'.carrier room logs holds refl)
       (quiet_on (moves.Take s place) answer refl refl u
-      (still_fit st lives.fit s can.inside _ (holding_kept w lives.fit w'.carrier s place m can there so.drawn (fine st s m ok.0)))
+      (still_sound st lives.fit s _ (holding_kept w lives.fit w'.carrier s place m can there so.drawn (fine st s m ok.0)))
       lives.logs (omega (arith, lives.holds, size))
       (runs.more lives.run (steps.takes (held_step w lives.fit w'.carrier s place m can there so.drawn ok.0 ok.1))))
 

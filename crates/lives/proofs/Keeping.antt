@@ -19,11 +19,11 @@ use Rattle.lives.specs.Traces.{Posting, Trace, posting, postings}
 use Rattle.lives.specs.Worked.{Moment}
 use Rattle.lives.specs.Keeps.{Agree, AlwaysKeeps, Complete, Genuine, InOrder, Keeps, Settled, hold_at, log_at}
 use Rattle.lives.proofs.Agreeing.{agree}
-use Rattle.lives.proofs.Clocks.{log_fits, row_end}
+use Rattle.seats.proofs.Clocks.{log_fits, row_end}
 use Rattle.lives.proofs.Cut.{cut_in, cut_one}
 use Rattle.lives.proofs.Going.{lives}
 use Rattle.lives.proofs.Lives.{Lives, given}
-use Rattle.lives.proofs.Parts.{length_part}
+use Rattle.seats.proofs.Tables.{length_part}
 use Rattle.lives.proofs.Views.{box_of, no_box, view}
 
 -- lists that are told by what a function makes of each element
@@ -111,7 +111,7 @@ module _ {B : Type 0} (trace : Trace B) (w : Moment B) (life : Lives trace w) wh
 
   hold_size : (s : ℕ) → s < N → length (hold_at w s) ≡ (seat_at st s).held
   hold_size s lt = length_part w.holds (start st s) (seat_at st s).held
-      (omega (arith, life.holds, row_end st life.fit s (seat_at st s).held lt (life.fit.each s lt).placed))
+      (omega (arith, life.holds, row_end st life.fit s (seat_at st s).held lt (life.fit.placed s)))
 
   delivery_kept : (s : ℕ) → s < N → Settled w s → Complete trace w s
   delivery_kept s lt settled = record {
@@ -142,7 +142,7 @@ module _ {B : Type 0} (trace : Trace B) (w : Moment B) (life : Lives trace w) wh
 
   short_kept : (s : ℕ) → s < N → length (log_at w s) ≤ N * Q
   short_kept s lt =
-      let most = log_fits N Q (seat_at st s) (life.fit.each s lt) in
+      let most = log_fits st life.fit s in
       let size = length_part w.logs (start st s) (log_length (seat_at st s)) (omega (arith, life.logs, row_end st life.fit s (log_length (seat_at st s)) lt most)) in
       omega arith
 

@@ -1,4 +1,3 @@
-pub mod Parts
 pub mod Clocks
 pub mod Cut
 pub mod Views

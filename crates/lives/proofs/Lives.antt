@@ -4,11 +4,11 @@ use Rattle.letters.specs.declared.letter.Letter.{Letter}
 use Rattle.letters.specs.Letters.{letter_name}
 use Rattle.causality.specs.History.{History, posted_letters, told}
 use Rattle.causality.specs.Runs.{Run}
+use Rattle.seats.specs.Keeping.{Sound}
 use Rattle.seats.specs.Rooms.{start}
 use Rattle.lives.specs.declared.moves.Move.{Move}
 use Rattle.lives.specs.Traces.{Answer, Posting, Trace, events, made, posting, postings}
 use Rattle.lives.specs.Worked.{Moment}
-use Rattle.lives.proofs.Clocks.{Fit}
 use Rattle.lives.proofs.Views.{view}
 
 module _ {B : Type 0} where
@@ -18,7 +18,7 @@ module _ {B : Type 0} where
 
   -- the run behind a room, which has the events and the posted letters of the trace
   pub record Lives (trace : Trace B) (w : Moment B) : Type 0 where
-    pub fit : Fit w.room
+    pub fit : Sound w.room
     pub logs : start w.room w.room.count ≤ length w.logs
     pub holds : start w.room w.room.count ≤ length w.holds
     pub past : History (Letter B)

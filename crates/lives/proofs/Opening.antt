@@ -1,13 +1,13 @@
 -- A room that has just been opened has a run with no events.
-use Rattle.std.proofs.Common.{◌≡◌, ℕ, zero, suc, ◌<◌, List, [], length, get_or, take, drop, replicate, sym, refl, ap, subst, arith}
+use Rattle.std.proofs.Common.{◌≡◌, ℕ, zero, suc, ◌*◌, ◌<◌, ◌≤◌, List, [], length, get_or, take, drop, replicate, sym, refl, ap, subst, arith}
 use Rattle.causality.specs.declared.docket.DocketState.TheVariants.{Clear}
 use Rattle.causality.specs.Worlds as worlds
 use Rattle.causality.specs.Runs as runs
 use Rattle.seats.specs.declared.seat.Seat.{Seat}
-use Rattle.seats.specs.Rooms.{seat_at, start}
+use Rattle.seats.specs.Keeping.{Nobody, Sound, Within}
+use Rattle.seats.specs.Rooms.{RoomState, seat_at, start}
 use Rattle.seats.specs.Seats.{blank, clock_at, fresh, log_length}
 use Rattle.lives.specs.Worked.{Moment, Opened}
-use Rattle.lives.proofs.Clocks.{Fit, Kept}
 use Rattle.lives.proofs.Cut.{cut_any}
 use Rattle.lives.proofs.Lives.{Lives}
 use Rattle.lives.proofs.Views.{box_of, no_box, view}
@@ -27,20 +27,27 @@ replicate_below P (suc n) x d at_x (suc i) lt = replicate_below P n x d at_x i (
 zeros : (p : ℕ) → clock_at fresh p ≡ 0
 zeros p = replicate_each (λ n. n ≡ 0) 16 0 0 refl refl p
 
-fresh_kept : (n q : ℕ) → Kept n q fresh
-fresh_kept n q = record { whole = refl; within = λ p. let z = zeros p in omega arith; nobody = λ p h. zeros p; placed = omega arith }
+-- a room in which nothing has happened
+pub fresh_sound : (st : RoomState) → 1 ≤ st.count → st.count ≤ 16 → 1 ≤ st.quota → st.count * st.quota ≤ 256 → st.seats ≡ replicate 16 fresh → Sound st
+fresh_sound st some few quotaed small seats =
+    record {
+      some = some;
+      few = few;
+      quotaed = quotaed;
+      small = small;
+      table = ap length seats;
+      whole = λ s lt. subst (λ (l : List Seat). length (get_or l s blank).clock.entries ≡ 16) (sym seats) (replicate_below (λ x. length x.clock.entries ≡ 16) 16 fresh blank refl s lt);
+      within = each (Within st.quota) (λ p. let z = zeros p in omega arith) (λ p. omega arith);
+      nobody = each (Nobody st.count) (λ p h. zeros p) (λ p h. refl);
+      placed = each (λ x. x.held ≤ st.count * st.quota) (omega arith) (omega arith);
+    }
+  where
+    each : (P : Seat → Type 0) → P fresh → P blank → (s : ℕ) → P (seat_at st s)
+    each P f b s = subst (λ (l : List Seat). P (get_or l s blank)) (sym seats) (replicate_each P 16 fresh blank f b s)
 
 module _ {B : Type 0} (w : Moment B) (opens : Opened w) where
   each : (P : Seat → Type 0) → P fresh → P blank → (s : ℕ) → P (seat_at w.room s)
   each P f b s = subst (λ (l : List Seat). P (get_or l s blank)) (sym opens.seats) (replicate_each P 16 fresh blank f b s)
-
-  fits : Fit w.room
-  fits = record {
-    few = opens.few_seats;
-    table = ap length opens.seats;
-    each = λ s lt. subst (λ (l : List Seat). Kept w.room.count w.room.quota (get_or l s blank)) (sym opens.seats)
-        (replicate_below (Kept w.room.count w.room.quota) 16 fresh blank (fresh_kept w.room.count w.room.quota) s (omega (arith, opens.few_seats)));
-  }
 
   at_opening : worlds.Opened (view w)
   at_opening = record {
@@ -55,7 +62,7 @@ module _ {B : Type 0} (w : Moment B) (opens : Opened w) where
 
   pub begins : Lives [] w
   begins = record {
-    fit = fits;
+    fit = fresh_sound w.room opens.some_seats opens.few_seats opens.some_quota opens.few_letters opens.seats;
     logs = opens.logs;
     holds = opens.holds;
     past = [];

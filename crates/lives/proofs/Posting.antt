@@ -16,7 +16,10 @@ use Rattle.seats.specs.Outcomes.{Posted, post_answer, posted_room, posted_seat, 
 use Rattle.seats.specs.Rooms.{RoomState, log_of, seat_at, start, with_seat}
 use Rattle.seats.specs.Seats.{allows, clock_at, docketed, log_length, moved}
 use Rattle.lives.specs.Worked.{Moment, moment}
-use Rattle.lives.proofs.Clocks.{Fit, Kept, clocked_kept, clocked_own, log_gains, log_short, log_stays, one_longer, told_seat}
+use Rattle.seats.specs.Keeping.{Kept, Sound}
+use Rattle.seats.proofs.Clocks.{clocked_kept, clocked_own, log_short}
+use Rattle.seats.proofs.Views.{log_gains, log_stays, told_seat}
+use Rattle.lives.proofs.Clocks.{one_longer}
 use Rattle.lives.proofs.Views.{at_seat, box_of, docketed_kept, elsewhere, hold_else, view}
 
 was_clear : (k : DocketState) → allows k Post ≡ true → k ≡ Clear
@@ -41,7 +44,7 @@ accepted st logs holds s d e = record {
   slip = grind (arith, nat_tests);
 }
 
-module _ {B : Type 0} (w : Moment B) (fit : Fit w.room) (logs' : List (Letter B)) (s : ℕ) (body : B) (d : Slip)
+module _ {B : Type 0} (w : Moment B) (fit : Sound w.room) (logs' : List (Letter B)) (s : ℕ) (body : B) (d : Slip)
     (e : Ok d ≡ post_answer w.room (length w.logs) (length w.holds) s) (added : Posted w.room s body w.logs logs') where
   abbrev st : RoomState
   st = w.room
@@ -62,16 +65,16 @@ module _ {B : Type 0} (w : Moment B) (fit : Fit w.room) (logs' : List (Letter B)
   kept = docketed_kept w fit s inside Post w.carrier
 
   pub posted_kept : Kept st.count st.quota x
-  posted_kept = clocked_kept st.count st.quota (docketed (seat_at st s) Post) kept fit.few s inside (clock_at (seat_at st s) s + 1) (omega (arith, was.left))
+  posted_kept = clocked_kept st.count st.quota fit.few (docketed (seat_at st s) Post) kept s inside (clock_at (seat_at st s) s + 1) (omega (arith, was.left))
 
   own : clock_at x s ≡ clock_at (seat_at st s) s + 1
-  own = clocked_own st.count st.quota (docketed (seat_at st s) Post) kept fit.few s inside (clock_at (seat_at st s) s + 1)
+  own = clocked_own st.count st.quota fit.few (docketed (seat_at st s) Post) kept s inside (clock_at (seat_at st s) s + 1)
 
   more : log_length x ≡ log_length (seat_at st s) + 1
-  more = one_longer st.count st.quota (docketed (seat_at st s) Post) kept fit.few s inside
+  more = one_longer st.count st.quota fit.few (docketed (seat_at st s) Post) kept s inside
 
   short : log_length (seat_at st s) < st.count * st.quota
-  short = log_short st.count st.quota (docketed (seat_at st s) Post) kept fit.few s inside was.left
+  short = log_short st.count st.quota fit.few (docketed (seat_at st s) Post) kept s inside was.left
 
   told : seat_at (with_seat st s x) s ≡ x
   told = told_seat st fit s inside x
@@ -98,7 +101,7 @@ module _ {B : Type 0} (w : Moment B) (fit : Fit w.room) (logs' : List (Letter B)
   gains = ap (λ l. log_of (with_seat st s x) l s) added.table ∙ log_gains st fit w.logs s inside x m more short was.long
 
   stays : (t : ℕ) → t < st.count → ¬ (t ≡ s) → log_of (with_seat st s x) logs' t ≡ log_of st w.logs t
-  stays t lt ne = ap (λ l. log_of (with_seat st s x) l t) added.table ∙ log_stays st fit w.logs s inside x m more short was.long t lt ne
+  stays t lt ne = ap (λ l. log_of (with_seat st s x) l t) added.table ∙ log_stays st fit w.logs s inside x m more short was.long t ne
 
   pub posts_step : Posts st.count st.quota s m (view w) (view posted_moment)
   posts_step = record {

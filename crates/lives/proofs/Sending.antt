@@ -17,7 +17,7 @@ use Rattle.seats.specs.Outcomes.{carrier_check, first, follows, is_called, or_mi
 use Rattle.seats.specs.Rooms.{RoomState, log_of, seat_at}
 use Rattle.seats.specs.Seats.{allows, clock_at, docketed, moved}
 use Rattle.lives.specs.Worked.{Moment}
-use Rattle.lives.proofs.Clocks.{Fit}
+use Rattle.seats.specs.Keeping.{Sound}
 use Rattle.lives.proofs.Cut.{cut_same, cut_two}
 use Rattle.lives.proofs.Views.{at_seat, box_of, docket_moment, docket_moves, view}
 use Rattle.lives.proofs.Splits.{First, first_at}
@@ -49,7 +49,7 @@ three_yes (Err why) b o x e = absurd cc
 pub called : {B : Type 0} (p n : ℕ) (m : Letter B) → is_called p n m ≡ true → (m.poster ≡ p) × (number_of m ≡ n)
 called p n m e = (grind (arith, nat_tests), grind (arith, nat_tests))
 
-module _ {B : Type 0} (w : Moment B) (fit : Fit w.room) (c' : Meaning (Letter B)) (d : Slip) (m : Letter B)
+module _ {B : Type 0} (w : Moment B) (fit : Sound w.room) (c' : Meaning (Letter B)) (d : Slip) (m : Letter B)
     (e : Ok m ≡ send_letter w.room w.logs (length w.holds) w.carrier.seats d) (put : PutOn w.carrier m.poster m c') where
   abbrev st : RoomState
   st = w.room

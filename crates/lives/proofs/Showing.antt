@@ -1,7 +1,6 @@
 -- An accepted show is a step of a run.
-use Rattle.std.proofs.Common.{◌≡◌, ℕ, suc, ◌+◌, ◌-◌, ◌*◌, ◌<◌, ◌≤◌, true, false, List, [], ◌∷◌, ◌++◌, length, take, drop, Some, None, Ok, Err, Option, Result, sym, refl, ap, ◌∙◌, arith}
+use Rattle.std.proofs.Common.{◌≡◌, ℕ, suc, ◌+◌, ◌-◌, ◌*◌, ◌<◌, true, false, List, [], ◌∷◌, ◌++◌, length, take, drop, Some, None, Ok, Err, Option, Result, sym, refl, ap, ◌∙◌, arith}
 use Rattle.std.proofs.lemmas.List.{get_or-set_other, length-set}
-use Rattle.std.proofs.lemmas.Bool.Decides.{nat_tests}
 use Rattle.letters.specs.declared.letter.Letter.{Letter}
 use Rattle.letters.specs.Letters.{number_of}
 use Rattle.letters.specs.Order.{Ready, ready}
@@ -14,8 +13,12 @@ use Rattle.seats.specs.Outcomes.{first_ready, follows, or_none_ready, seat_check
 use Rattle.seats.specs.Rooms.{RoomState, foot, hold_of, seat_at, start, with_seat}
 use Rattle.seats.specs.Seats.{clock_at, clocked, log_length}
 use Rattle.lives.specs.Worked.{Moment, moment}
-use Rattle.lives.proofs.Clocks.{Fit, Kept, clocked_kept, clocked_own, hold_loses, hold_stays, log_gains, log_short, log_stays, one_longer, row_end, told_seat}
-use Rattle.lives.proofs.Parts.{length-closed, length_part}
+use Rattle.seats.specs.Keeping.{Kept, Sound}
+use Rattle.seats.proofs.Accepted.{Visited, visited}
+use Rattle.seats.proofs.Clocks.{clocked_kept, clocked_own, log_short, row_end, seat_kept}
+use Rattle.seats.proofs.Tables.{length-closed, length_part}
+use Rattle.seats.proofs.Views.{hold_loses, hold_stays, log_gains, log_stays, told_seat}
+use Rattle.lives.proofs.Clocks.{one_longer}
 use Rattle.lives.proofs.Splits.{First, first_at}
 use Rattle.lives.proofs.Views.{at_seat, box_of, elsewhere, view}
 
@@ -32,16 +35,7 @@ both_yes (Ok yes') (Some y) x e = (refl, cc)
 both_yes (Ok yes') None x e = absurd cc
 both_yes (Err why) o x e = absurd cc
 
--- what a check of the tables and the seat that says yes has tested
-record Visited (st : RoomState) (logs holds s : ℕ) : Type 0 where
-  inside : s < st.count
-  logs_long : start st st.count ≤ logs
-  holds_long : start st st.count ≤ holds
-
-visited : (st : RoomState) (logs holds s : ℕ) → Ok tt ≡ seat_check st logs holds s → Visited st logs holds s
-visited st logs holds s can = record { inside = grind (arith, nat_tests); logs_long = grind (arith, nat_tests); holds_long = grind (arith, nat_tests) }
-
-module _ {B : Type 0} (w : Moment B) (fit : Fit w.room) (s k : ℕ) (m : Letter B)
+module _ {B : Type 0} (w : Moment B) (fit : Sound w.room) (s k : ℕ) (m : Letter B)
     (e : Ok (k, m) ≡ show_outcome w.room (length w.logs) w.holds s) where
   abbrev st : RoomState
   st = w.room
@@ -71,7 +65,7 @@ module _ {B : Type 0} (w : Moment B) (fit : Fit w.room) (s k : ℕ) (m : Letter 
   show_inside = at.inside
 
   seat : Kept st.count st.quota (seat_at st s)
-  seat = fit.each s at.inside
+  seat = seat_kept st fit s (omega (arith, at.inside, fit.few))
 
   told : seat_at (with_seat st s x) s ≡ x
   told = told_seat st fit s at.inside x
@@ -88,14 +82,14 @@ module _ {B : Type 0} (w : Moment B) (fit : Fit w.room) (s k : ℕ) (m : Letter 
 
   pub shown_kept : Kept st.count st.quota x
   shown_kept =
-      let kept = clocked_kept st.count st.quota (seat_at st s) seat fit.few m.poster can.below (number_of m) can.within in
+      let kept = clocked_kept st.count st.quota fit.few (seat_at st s) seat m.poster can.below (number_of m) can.within in
       record { whole = kept.whole; within = kept.within; nobody = kept.nobody; placed = omega (arith, kept.placed) }
 
   more : log_length x ≡ log_length (seat_at st s) + 1
-  more = ap log_length clock_is ∙ one_longer st.count st.quota (seat_at st s) seat fit.few m.poster can.below
+  more = ap log_length clock_is ∙ one_longer st.count st.quota fit.few (seat_at st s) seat m.poster can.below
 
   short : log_length (seat_at st s) < st.count * st.quota
-  short = log_short st.count st.quota (seat_at st s) seat fit.few m.poster can.below (omega (arith, can.next, can.within))
+  short = log_short st.count st.quota fit.few (seat_at st s) seat m.poster can.below (omega (arith, can.next, can.within))
 
   held : k < (seat_at st s).held
   held =
@@ -114,14 +108,14 @@ module _ {B : Type 0} (w : Moment B) (fit : Fit w.room) (s k : ℕ) (m : Letter 
     ready = at_s (λ b b'. Ready st.count st.quota s b.clock m) can;
     first = λ j i. at_s (λ b b'. ¬ (Ready st.count st.quota s b.clock j)) (not_ready st s j (first.before j i));
     own = at_s (λ b b'. b'.clock m.poster ≡ number_of m)
-        (ap (λ (y : Seat). clock_at y m.poster) told ∙ clocked_own st.count st.quota (seat_at st s) seat fit.few m.poster can.below (number_of m));
+        (ap (λ (y : Seat). clock_at y m.poster) told ∙ clocked_own st.count st.quota fit.few (seat_at st s) seat m.poster can.below (number_of m));
     rest = λ p ne. at_s (λ b b'. b'.clock p ≡ b.clock p)
         (ap (λ (y : Seat). clock_at y p) told ∙ get_or-set_other (seat_at st s).clock.entries m.poster p (number_of m) 0 ne);
     log = at_s (λ b b'. b'.log ≡ b.log ++ (m ∷ [])) (log_gains st fit w.logs s at.inside x m more short at.logs_long);
     hold = at_s (λ b b'. b'.hold ≡ take k H ++ drop (suc k) H) (hold_loses st fit w.holds s k at.inside x refl held at.holds_long);
     docket = at_s (λ b b'. b'.docket ≡ b.docket) (ap (λ (y : Seat). y.docket) told);
     elsewhere = elsewhere w fit s at.inside x logs' holds' w.carrier
-        (log_stays st fit w.logs s at.inside x m more short at.logs_long)
+        (λ t lt. log_stays st fit w.logs s at.inside x m more short at.logs_long t)
         (hold_stays st fit w.holds s k at.inside x refl held at.holds_long);
     waiting = λ t. refl;
   }

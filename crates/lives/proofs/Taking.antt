@@ -1,6 +1,5 @@
 -- An accepted take is a step of a run.
 use Rattle.std.proofs.Common.{◌≡◌, ℕ, suc, ◌+◌, ◌*◌, ◌<◌, ◌≤◌, true, false, leb, List, [], ◌∷◌, ◌++◌, length, take, drop, set, Some, None, Ok, Option, sym, refl, ap, ◌∙◌, inl, inr, arith}
-use Rattle.std.proofs.lemmas.Nat.{mul-add-lt}
 use Rattle.std.proofs.lemmas.Bool.{or_cases, or_parts, and_from, eq-eqb, leb-true, ltb-true, eqb-true, leb-false}
 use Rattle.std.proofs.lemmas.Bool.Decides.{nat_tests}
 use Rattle.letters.specs.declared.letter.Letter.{Letter}
@@ -17,9 +16,11 @@ use Rattle.seats.specs.Outcomes.{first, is_called, is_repeat, is_some, is_stray,
 use Rattle.seats.specs.Rooms.{RoomState, hold_of, seat_at, start, with_seat}
 use Rattle.seats.specs.Seats.{clock_at, holding, log_length}
 use Rattle.lives.specs.Worked.{Moment, moment}
-use Rattle.lives.proofs.Clocks.{Fit, Kept, other_seat, row_end, told_seat}
+use Rattle.seats.specs.Keeping.{Kept, Sound}
+use Rattle.seats.proofs.Clocks.{row_end, seat_kept}
+use Rattle.seats.proofs.Tables.{length_part}
+use Rattle.seats.proofs.Views.{hold_gains, hold_rests, told_seat}
 use Rattle.lives.proofs.Cut.{cut_one, cut_same}
-use Rattle.lives.proofs.Parts.{length_part, part_push, part_set_out, rows_apart}
 use Rattle.lives.proofs.Sending.{called}
 use Rattle.lives.proofs.Splits.{Nth, first_at, none_passes}
 use Rattle.lives.proofs.Views.{at_seat, box_of, elsewhere, log_else, view}
@@ -44,7 +45,7 @@ pub record Fine {B : Type 0} (st : RoomState) (s : ℕ) (m : Letter B) : Type 0 
 pub fine : {B : Type 0} (st : RoomState) (s : ℕ) (m : Letter B) → is_stray st s m ≡ false → Fine st s m
 fine st s m e = record { poster = grind (arith, nat_tests); other = grind (arith, nat_tests); quota = grind (arith, nat_tests); free = grind (arith, nat_tests) }
 
-module _ {B : Type 0} (w : Moment B) (fit : Fit w.room) (s : ℕ) (m : Letter B) (inside : s < w.room.count)
+module _ {B : Type 0} (w : Moment B) (fit : Sound w.room) (s : ℕ) (m : Letter B) (inside : s < w.room.count)
     (long : start w.room w.room.count ≤ length w.holds) where
   abbrev st : RoomState
   st = w.room
@@ -56,7 +57,7 @@ module _ {B : Type 0} (w : Moment B) (fit : Fit w.room) (s : ℕ) (m : Letter B)
   H = hold_of st w.holds s
 
   size : length H ≡ (seat_at st s).held
-  size = length_part w.holds (start st s) (seat_at st s).held (omega (arith, long, row_end st fit s (seat_at st s).held inside (fit.each s inside).placed))
+  size = length_part w.holds (start st s) (seat_at st s).held (omega (arith, long, row_end st fit s (seat_at st s).held inside (fit.placed s)))
 
   pub a_stray : is_stray st s m ≡ true → Stray st.count st.quota s b m
   a_stray e = elim (or_cases _ _ e) [
@@ -117,7 +118,7 @@ module _ {B : Type 0} (w : Moment B) (fit : Fit w.room) (s : ℕ) (m : Letter B)
         | among_held k i same ↦ miss (first (is_called m.poster (number_of m)) 0 H) refl (not_held e) k i same
       ]
 
-module _ {B : Type 0} (w : Moment B) (fit : Fit w.room) (c' : Meaning (Letter B)) (s place : ℕ) (m : Letter B)
+module _ {B : Type 0} (w : Moment B) (fit : Sound w.room) (c' : Meaning (Letter B)) (s place : ℕ) (m : Letter B)
     (can : Takeable w.room (length w.holds) w.carrier s place) (there : Nth (w.carrier.waiting s) place m) (drawn : Drawn w.carrier s place c') where
   abbrev N : ℕ
   N = w.room.count
@@ -163,7 +164,7 @@ module _ {B : Type 0} (w : Moment B) (fit : Fit w.room) (c' : Meaning (Letter B)
 
   pub holding_kept : Fine w.room s m → Kept N Q x
   holding_kept ok =
-      let k = fit.each s can.inside in
+      let k = seat_kept w.room fit s (omega (arith, can.inside, fit.few)) in
       record { whole = k.whole; within = k.within; nobody = k.nobody; placed = omega (arith, ok.free) }
 
   at_s : (P : Box B → Box B → Type 0) → P (box_of w s) (box_of held_moment s) → P ((view w).box s) ((view held_moment).box s)
@@ -186,11 +187,7 @@ module _ {B : Type 0} (w : Moment B) (fit : Fit w.room) (c' : Meaning (Letter B)
         docket = at_s (λ b b'. b'.docket ≡ b.docket) (ap (λ (y : Seat). y.docket) told);
         outcome = at_s (λ b b'. Outcome N Q s m b b')
             (outcome.held (no_stray w fit s m can.inside can.long ok) (no_repeat w fit s m can.inside can.long new)
-            (ap (λ (y : Seat). take y.held (drop (start w.room s) holds')) told
-            ∙ part_push w.holds (start w.room s) (seat_at w.room s).held m
-            (omega (arith, can.long, mul-add-lt s (N * Q) (seat_at w.room s).held N can.inside free))));
+            (hold_gains w.room fit w.holds s can.inside x m refl free can.long));
         elsewhere = elsewhere w fit s can.inside x w.logs holds' c' (λ t lt. log_else w fit s can.inside x t)
-            (λ t lt ne. ap (λ (y : Seat). take y.held (drop (start w.room t) holds')) (other_seat w.room fit s can.inside x t ne)
-            ∙ part_set_out w.holds (start w.room t) (seat_at w.room t).held (start w.room s + (seat_at w.room s).held) m
-            (rows_apart (N * Q) s t (seat_at w.room s).held (seat_at w.room t).held (λ q. ne (sym q)) free (fit.each t lt).placed));
+            (λ t lt. hold_rests w.room fit w.holds s can.inside x m refl free can.long t);
       }

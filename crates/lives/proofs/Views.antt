@@ -1,5 +1,5 @@
 -- A room with its tables and its carrier as a world of boxes, and how that changes when one seat is told something.
-use Rattle.std.proofs.Common.{◌≡◌, ℕ, ◌<◌, cond, ltb, List, [], take, drop, ap, ◌∙◌}
+use Rattle.std.proofs.Common.{◌≡◌, ℕ, ◌<◌, cond, ltb, List, [], take, drop, ap, ◌∙◌, arith}
 use Rattle.letters.specs.declared.letter.Letter.{Letter}
 use Rattle.carriers.specs.Meaning.{Meaning}
 use Rattle.causality.specs.declared.docket.DocketState.{DocketState}
@@ -11,7 +11,9 @@ use Rattle.seats.specs.declared.seat.DocketEvent.{DocketEvent}
 use Rattle.seats.specs.Rooms.{hold_of, log_of, seat_at, start, with_seat}
 use Rattle.seats.specs.Seats.{clock_at, docketed, log_length, moved}
 use Rattle.lives.specs.Worked.{Moment, moment}
-use Rattle.lives.proofs.Clocks.{Fit, Kept, other_seat, told_seat}
+use Rattle.seats.specs.Keeping.{Kept, Sound}
+use Rattle.seats.proofs.Clocks.{seat_kept}
+use Rattle.seats.proofs.Views.{other_seat, told_seat}
 use Rattle.lives.proofs.Cut.{cut_same, cut_two}
 
 module _ {B : Type 0} where
@@ -38,7 +40,7 @@ module _ {B : Type 0} where
       → hold_of w'.room w'.holds t ≡ hold_of w.room w.holds t → box_of w' t ≡ box_of w t
   same_box w w' t q e f = λ j. record { clock = clock_at (q j); log = e j; hold = f j; docket = (q j).docket }
 
-module _ {B : Type 0} (w : Moment B) (fit : Fit w.room) (s : ℕ) (inside : s < w.room.count) (x : Seat) where
+module _ {B : Type 0} (w : Moment B) (fit : Sound w.room) (s : ℕ) (inside : s < w.room.count) (x : Seat) where
   -- a table that is not written
   pub log_else : (t : ℕ) → ¬ (t ≡ s) → log_of (with_seat w.room s x) w.logs t ≡ log_of w.room w.logs t
   log_else t ne = ap (λ (y : Seat). take (log_length y) (drop (start w.room t) w.logs)) (other_seat w.room fit s inside x t ne)
@@ -62,12 +64,12 @@ module _ {B : Type 0} (w : Moment B) (fit : Fit w.room) (s : ℕ) (inside : s < 
         (λ lt. same_box w told-moment t (other_seat w.room fit s inside x t ne) (same_log t lt ne) (same-hold t lt ne))
 
 -- a seat's docket moves
-module _ {B : Type 0} (w : Moment B) (fit : Fit w.room) (s : ℕ) (inside : s < w.room.count) (event : DocketEvent) (c' : Meaning (Letter B)) where
+module _ {B : Type 0} (w : Moment B) (fit : Sound w.room) (s : ℕ) (inside : s < w.room.count) (event : DocketEvent) (c' : Meaning (Letter B)) where
   abbrev x : Seat
   x = docketed (seat_at w.room s) event
 
   pub docketed_kept : Kept w.room.count w.room.quota x
-  docketed_kept = let k = fit.each s inside in record { whole = k.whole; within = k.within; nobody = k.nobody; placed = k.placed }
+  docketed_kept = let k = seat_kept w.room fit s (omega (arith, fit.few)) in record { whole = k.whole; within = k.within; nobody = k.nobody; placed = k.placed }
 
   abbrev pub docket_moment : Moment B
   docket_moment = moment (with_seat w.room s x) w.logs w.holds c'

@@ -1,75 +1,76 @@
-use Rattle.std.proofs.Common.{Some, sym, refl, ap}
-use Rattle.lives.specs.Traces.{dockets, does, shows}
+use Rattle.std.proofs.Common.{Some, Ok, Err, sym, refl, ap}
 use Rattle.rooms.specs.declared.asking.Answer.TheVariants as answers
-use Rattle.rooms.proofs.Stepping.{declined, made}
+use Rattle.rooms.proofs.Stepping.{collect_makes, declined, made, park_makes, post_makes, send_makes, show_makes, take_makes}
 use Rattle.rooms.proofs.room.Room.make.Goals as goal
 
 pub returns-in_ok-post-in-Post : goal.returns-in_ok-post-in-Post
 returns-in_ok-post-in-Post g c =
     let call = c.in_ok-post-in-Post.ensures in
     made _ _ _ _ (answers.Docket _) (sym c.in-Post.is)
-    (record { answers = ap dockets call.answer; room = call.room; logs = call.logs; holds = refl; carrier = refl })
+    (post_makes _ _ (Ok _) call.answer call.room call.logs)
 
 pub returns-in_err-post-in-Post : goal.returns-in_err-post-in-Post
 returns-in_err-post-in-Post g c =
     let call = c.in_err-post-in-Post.ensures in
     declined _ _ _ _ _ _ (sym c.in-Post.is) c.from_residual.ensures.1
-    (record { answers = ap dockets call.answer; room = call.room; logs = call.logs; holds = refl; carrier = refl }) refl
+    (post_makes _ _ (Err _) call.answer call.room call.logs) refl
 
 pub returns-in_ok-send-in-Send : goal.returns-in_ok-send-in-Send
 returns-in_ok-send-in-Send g c =
     let call = c.in_ok-send-in-Send.ensures in
     made _ _ _ _ answers.Done (sym c.in-Send.is)
-    (record { answers = ap does call.answer; room = call.room; logs = refl; holds = refl; carrier = call.carrier })
+    (send_makes _ (Ok _) call.answer call.room call.carrier)
 
 pub returns-in_err-send-in-Send : goal.returns-in_err-send-in-Send
 returns-in_err-send-in-Send g c =
     let call = c.in_err-send-in-Send.ensures in
     declined _ _ _ _ _ _ (sym c.in-Send.is) c.from_residual-in_err-send-in-Send.ensures.1
-    (record { answers = ap does call.answer; room = call.room; logs = refl; holds = refl; carrier = call.carrier }) (ap (λ d. Some d) call.docket)
+    (send_makes _ (Err _) call.answer call.room call.carrier) (ap (λ d. Some d) call.docket)
 
 pub returns-in_ok-park-in-Park : goal.returns-in_ok-park-in-Park
 returns-in_ok-park-in-Park g c =
     let call = c.in_ok-park-in-Park.ensures in
     made _ _ _ _ answers.Done (sym c.in-Park.is)
-    (record { answers = ap does call.answer; room = call.room; logs = refl; holds = refl; carrier = refl })
+    (park_makes _ (Ok _) call.answer call.room)
 
 pub returns-in_err-park-in-Park : goal.returns-in_err-park-in-Park
 returns-in_err-park-in-Park g c =
     let call = c.in_err-park-in-Park.ensures in
     declined _ _ _ _ _ _ (sym c.in-Park.is) c.from_residual-in_err-park-in-Park.ensures.1
-    (record { answers = ap does call.answer; room = call.room; logs = refl; holds = refl; carrier = refl }) (ap (λ d. Some d) call.docket)
+    (park_makes _ (Err _) call.answer call.room) (ap (λ d. Some d) call.docket)
 
 pub returns-in_ok-collect-in-Collect : goal.returns-in_ok-collect-in-Collect
 returns-in_ok-collect-in-Collect g c =
     let call = c.in_ok-collect-in-Collect.ensures in
     made _ _ _ _ (answers.Docket _) (sym c.in-Collect.is)
-    (record { answers = ap dockets call.answer; room = call.room; logs = refl; holds = refl; carrier = refl })
+    (collect_makes _ (Ok _) call.answer call.room)
 
 pub returns-in_err-collect-in-Collect : goal.returns-in_err-collect-in-Collect
 returns-in_err-collect-in-Collect g c =
     let call = c.in_err-collect-in-Collect.ensures in
     declined _ _ _ _ _ _ (sym c.in-Collect.is) c.from_residual-in_err-collect-in-Collect.ensures.1
-    (record { answers = ap dockets call.answer; room = call.room; logs = refl; holds = refl; carrier = refl }) refl
+    (collect_makes _ (Err _) call.answer call.room) refl
 
 pub returns-in_ok-take-in-Take : goal.returns-in_ok-take-in-Take
 returns-in_ok-take-in-Take g c =
+    let call = c.in_ok-take-in-Take.ensures in
     made _ _ _ _ (answers.Taken _) (sym c.in-Take.is)
-    (record { result = _; answers = refl; leaves = c.in_ok-take-in-Take.ensures; logs = refl })
+    (take_makes _ _ (Ok _) call)
 
 pub returns-in_err-take-in-Take : goal.returns-in_err-take-in-Take
 returns-in_err-take-in-Take g c =
+    let call = c.in_err-take-in-Take.ensures in
     declined _ _ _ _ _ _ (sym c.in-Take.is) c.from_residual-in_err-take-in-Take.ensures.1
-    (record { result = _; answers = refl; leaves = c.in_err-take-in-Take.ensures; logs = refl }) refl
+    (take_makes _ _ (Err _) call) refl
 
 pub returns-in_ok-show-in-Show : goal.returns-in_ok-show-in-Show
 returns-in_ok-show-in-Show g c =
     let call = c.in_ok-show-in-Show.ensures in
     made _ _ _ _ (answers.Shown c.in_ok-show-in-Show.field-0) (sym c.in-Show.is)
-    (record { answers = ap shows call.answer; room = call.room; logs = call.logs; holds = call.holds; carrier = refl })
+    (show_makes _ (Ok _) call.answer call.room call.logs call.holds)
 
 pub returns-in_err-show-in-Show : goal.returns-in_err-show-in-Show
 returns-in_err-show-in-Show g c =
     let call = c.in_err-show-in-Show.ensures in
     declined _ _ _ _ _ _ (sym c.in-Show.is) c.from_residual-in_err-show-in-Show.ensures.1
-    (record { answers = ap shows call.answer; room = call.room; logs = call.logs; holds = call.holds; carrier = refl }) refl
+    (show_makes _ (Err _) call.answer call.room call.logs call.holds) refl
