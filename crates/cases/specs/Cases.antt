@@ -1,18 +1,17 @@
 -- Worked cases, as rows of one table: each asks a definition that a contract cites, and gives the answer.
 -- Stamps are written by their first three entries, and the others are 0.
-use Rattle.std.specs.Prelude.{◌≡◌, ℕ, ◌-◌, Bool, true, false, cond, not, ◌&&◌, T, List, [], ◌∷◌, replicate, Some, None, Ok, Err, Option, Result, ◌==◌, count_ones, length, nat_lt, refl}
+use Rattle.std.specs.Prelude.{◌≡◌, ℕ, ◌-◌, Bool, true, false, cond, not, ◌&&◌, T, List, [], ◌∷◌, replicate, Some, None, Ok, Err, Option, Result, ◌==◌, count_ones, nat_lt, refl}
 use Rattle.std.proofs.Common.{lit<}
 use Rattle.letters.specs.declared.job.Job.{Job}
 use Rattle.letters.specs.declared.job.Job.TheVariants.{Add, Strike}
 use Rattle.letters.specs.declared.letter.Letter.{Letter}
 use Rattle.letters.specs.declared.stamp.Stamp.{Stamp}
 use Rattle.letters.specs.Letters.{entry_at}
-use Rattle.letters.specs.Order.{all_known, covers, each_below, ready, side_by_side}
+use Rattle.letters.specs.Order.{covers, each_below, ready, side_by_side}
 use Rattle.letters.specs.Refusals.{Reason}
 use Rattle.rooms.specs.Drafts.{DraftState, enrol_check}
 use Rattle.sheets.specs.JobLists.{code_in, job_does, open_job}
 use Rattle.sheets.specs.Pages.{page_count}
-use lib.Count.{ones}
 use Rattle.spool.specs.Masks.{all_but}
 use Rattle.spool.specs.Rows.{row_fits, spool_answer}
 
@@ -112,11 +111,3 @@ every_holds (c ∷ cs) = holds c && every_holds cs
 -- each row of the table has its answer
 abbrev pub CasesHold : Type 0
 CasesHold = every_holds cases ≡ true
-
-pub worked_cases : CasesHold
-unfolding all_known ones
-worked_cases = refl
-
--- how many rows there are
-pub rows : length cases ≡ 18
-rows = refl
