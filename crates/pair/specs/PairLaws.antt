@@ -1,9 +1,9 @@
--- A pair of lawful carriers with equally many seats is lawful.
-use Rattle.std.specs.Prelude.{◌≡◌, ℕ, List, [], ◌∷◌, ◌++◌, refl}
-use Rattle.std.proofs.Common.{arith}
-use Rattle.std.proofs.lemmas.Bool.{and_left, and_from}
+-- A pair of lawful carriers is lawful.
+use Rattle.std.specs.Prelude.{◌≡◌, ℕ, Bool, true, false, cond, List, [], ◌∷◌, ◌++◌, ◌==◌, refl}
+use Rattle.std.proofs.Common.{sym, subst, ◌∙◌, ⊎_elim, arith}
+use Rattle.std.proofs.lemmas.Bool.{eqb-true, and_left, and_from, cond-true, cases_Bool}
 use Rattle.carriers.specs.Meaning.{Meaning, Lawful}
-use Rattle.pair.specs.Pairs.{both}
+use Rattle.pair.specs.Pairs.{joined, both}
 
 module _ {L : Type 0} where
   nil_left : (xs ys : List L) → xs ++ ys ≡ [] → xs ≡ []
@@ -14,8 +14,21 @@ module _ {L : Type 0} where
   nil_right [] ys e = e
   nil_right (x ∷ xs) ys e = let z : ◌≡◌ {A = ℕ} 0 1 = cc in absurd (omega arith)
 
-  pub lawful_both : (m n : Meaning L) → m.seats ≡ n.seats → Lawful m → Lawful n → Lawful (both m n)
-  lawful_both m n s a b = record {
+  pub both_level : (m n : Meaning L) (b : Bool) → b ≡ (m.seats == n.seats) → b ≡ true → both m n ≡ joined m n
+  both_level m n b e t = cond-true _ _ _ (sym e ∙ t)
+
+  pub both_alone : (m n : Meaning L) (b : Bool) → b ≡ (m.seats == n.seats) → b ≡ false → both m n ≡ m
+  both_alone m n b e t = rw (sym e ∙ t) refl
+
+  -- what the test of the code says
+  pub equal_seats : (m n : Meaning L) (b : Bool) → b ≡ (m.seats == n.seats) → b ≡ true → m.seats ≡ n.seats
+  equal_seats m n b e t = eqb-true _ _ (sym e ∙ t)
+
+  pub both_seats : (m n : Meaning L) → (both m n).seats ≡ m.seats
+  both_seats m n = elim (m.seats == n.seats) as (λ b. (cond b (joined m n) m).seats ≡ m.seats) [ true ↦ refl | false ↦ refl ]
+
+  lawful_joined : (m n : Meaning L) → m.seats ≡ n.seats → Lawful m → Lawful n → Lawful (joined m n)
+  lawful_joined m n s a b = record {
     some_seats = a.some_seats;
     few_seats = a.few_seats;
     no_waiting = λ k h. let e = a.no_waiting k h in let f = b.no_waiting k (omega arith) in rw (e, f);
@@ -25,3 +38,10 @@ module _ {L : Type 0} where
         (a.empty_fits (λ k. nil_left _ _ (none k)) p h)
         (b.empty_fits (λ k. nil_right (m.waiting k) _ (none k)) p (omega arith));
   }
+
+  pub lawful_both : (m n : Meaning L) → Lawful m → Lawful n → Lawful (both m n)
+  lawful_both m n a b =
+      ⊎_elim
+      (λ t. subst Lawful (sym (both_level m n _ refl t)) (lawful_joined m n (eqb-true _ _ t) a b))
+      (λ f. subst Lawful (sym (both_alone m n _ refl f)) a)
+      (cases_Bool (m.seats == n.seats))

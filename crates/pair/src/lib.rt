@@ -45,7 +45,7 @@ impl<C: Carrier, D: Carrier<Body = C::Body>> Carrier for Pair<C, D> {
 
     ghost meaning = { λ p. both (C.Carrier.meaning p.first) (D.Carrier.meaning p.second) };
 
-    ghost lawful = { λ p. lawful_both (C.Carrier.meaning p.first) (D.Carrier.meaning p.second) p.level (C.Carrier.lawful p.first) (D.Carrier.lawful p.second) };
+    ghost lawful = { λ p. lawful_both (C.Carrier.meaning p.first) (D.Carrier.meaning p.second) (C.Carrier.lawful p.first) (D.Carrier.lawful p.second) };
 
     fn seats(&self) -> u8 {
         self.first.seats()
