@@ -1,5 +1,5 @@
 -- Queues side by side in one row of places.
-use Rattle.std.proofs.Common.{◌≡◌, ℕ, ◌+◌, ◌-◌, ◌*◌, ◌<◌, ◌≤◌, List, [], ◌∷◌, ◌++◌, length, get_or, take, drop, sym, ap, ◌∙◌, ⊎_elim, arith}
+use Rattle.std.proofs.Common.{◌≡◌, ℕ, ◌+◌, ◌-◌, ◌*◌, ◌<◌, ◌≤◌, List, length, get_or, take, drop, sym, ap, ◌∙◌, ⊎_elim, arith}
 use Rattle.std.proofs.lemmas.Bool.{cases_order}
 use borrow.Rule.Slice.PartMut.{put_mid}
 use Rattle.std.proofs.lemmas.List.{take-take, drop-take, drop_at, take-append-le, drop-drop, length-take-le}
@@ -29,11 +29,6 @@ module _ {X : Type 0} (start size : ℕ) (row : List X) (fits : start + size ≤
   queue_of_part n le = take-take n cut (drop start row) (omega arith)
 
   module _ (part : List X) (long : length part ≡ cut) (n : ℕ) where
-    -- one place more in use
-    pub pushed : (x : X) → n < size → take (n + 1) part ≡ take n (take cut (drop start row)) ++ (x ∷ [])
-        → part_at start (n + 1) (put_mid start cut row part) ≡ part_at start n row ++ (x ∷ [])
-    pushed x lt is = queue_in_part part long (n + 1) (omega arith) ∙ is ∙ ap (λ l. l ++ (x ∷ [])) (queue_of_part n (omega arith))
-
     -- a place taken out
     pub taken_out : (place : ℕ) → n ≤ size → take (n - 1) part ≡ remove (take n (take cut (drop start row))) place
         → part_at start (n - 1) (put_mid start cut row part) ≡ remove (part_at start n row) place

@@ -1,5 +1,5 @@
 -- A put on its way through the seats of lines.
-use Rattle.std.proofs.Common.{◌≡◌, ℕ, ◌+◌, ◌<◌, ◌≤◌, not, ltb, [], ◌∷◌, ◌++◌, get_or, set, sym, refl, ap, ◌∙◌, subst, ⊎_elim, arith}
+use Rattle.std.proofs.Common.{◌≡◌, ℕ, ◌+◌, ◌<◌, ◌≤◌, not, ltb, [], ◌∷◌, ◌++◌, get_or, set, sym, ap, ◌∙◌, subst, ⊎_elim, arith}
 use Rattle.std.proofs.lemmas.List.{get_or-set_other}
 use Rattle.std.proofs.lemmas.Bool.{cases_eq, cases_lt, cond-true, cond-false, and_from, and_left, and_right, lt-ltb, le-ltb, eq-eqb, ne_eqb}
 use Rattle.letters.specs.declared.letter.Letter.{Letter}
@@ -18,9 +18,6 @@ module _ {B : Type 0} (old : Lines B) (x : Letter B) where
     pub own : (lines_of new).waiting x.poster ≡ (lines_of old).waiting x.poster
     pub counts : (k : ℕ) → i ≤ k → get_or new.counts k 0 ≡ get_or old.counts k 0
     pub ahead : (k : ℕ) → i ≤ k → (lines_of new).waiting k ≡ (lines_of old).waiting k
-
-  pub sent_none : Sent 0 old
-  sent_none = record { seats = refl; size = refl; passed = λ k h ne. absurd (omega arith); own = refl; counts = λ k h. refl; ahead = λ k h. refl }
 
   module _ (i : ℕ) (mid : Lines B) (s : Sent i mid) where
     pub sent_skip : i ≡ x.poster → Sent (i + 1) mid

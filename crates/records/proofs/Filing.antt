@@ -1,7 +1,8 @@
 -- Files of letters, record by record.
 use Rattle.std.proofs.Common.{◌≡◌, ℕ, zero, suc, ◌+◌, ◌*◌, ◌<◌, min, List, [], ◌∷◌, ◌++◌, length, get_or, take, drop, set, None, sym, refl, ap, ◌∙◌, ⊎_elim, arith}
+use Rattle.std.proofs.Math.Seq.{take-add}
 use Rattle.std.proofs.lemmas.Bool.{cases_lt}
-use Rattle.std.proofs.lemmas.List.{flat_map_more, take-append-drop, take-take, drop-take, take_at, take_all, take_more, take_more_set, length-take-le, drop_at, drop_all, drop-set-lt, drop-drop, length-append, length-drop}
+use Rattle.std.proofs.lemmas.List.{flat_map_more, take-take, take_at, take_all, take_more, take_more_set, length-take-le, drop_at, drop_all, drop-set-lt, drop-drop, length-append, length-drop}
 use Rattle.std.specs.Simd.{first_chunks}
 use Rattle.letters.specs.declared.letter.Letter.{Letter}
 use Rattle.letters.specs.Forms.{Form, Lawful}
@@ -16,12 +17,6 @@ use Rattle.records.proofs.Faults.{right_each}
 use Rattle.records.proofs.Overlays.{overlaid-after}
 use Rattle.records.proofs.RoundTrip.{begun, front_whole, record_long, written_back}
 
-pub take_add : {X : Type 0} (n m : ℕ) (xs : List X) → take (n + m) xs ≡ take n xs ++ take m (drop n xs)
-take_add n m xs =
-    let front = take-take n (n + m) xs (omega arith) in
-    let back = drop-take n m xs in
-    let whole = take-append-drop n (take (n + m) xs) in cc
-
 module _ {B : Type 0} (form : Form B) where
   -- one letter more at the foot
   pub file_more : (ms : List (Letter B)) (m : Letter B) → file_of form (ms ++ (m ∷ [])) ≡ file_of form ms ++ record_of form m
@@ -34,7 +29,7 @@ module _ {B : Type 0} (form : Form B) where
   load_more bs table i m within is before =
       let f = ap (file_of form) (take_more_set table i m within) ∙ file_more (take i table) m in
       let size : record_size * (i + 1) ≡ record_size * i + record_size = omega arith in
-      let two = ap (λ n. take n bs) size ∙ take_add (record_size * i) record_size bs in
+      let two = ap (λ n. take n bs) size ∙ take-add (record_size * i) record_size bs in
       f ∙ ap (λ l. l ++ record_of form m) before ∙ ap (λ l. take (record_size * i) bs ++ l) is ∙ sym two
 
   -- the rest of the table is as it was

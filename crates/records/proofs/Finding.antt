@@ -1,11 +1,11 @@
 -- What a reader does, by what it finds next.
-use Rattle.std.proofs.Common.{◌≡◌, ℕ, ◌-◌, ◌*◌, ◌<◌, true, false, eqb, List, length, take, drop, Some, None, Ok, Err, Option, refl, ap, ◌∙◌, arith}
+use Rattle.std.proofs.Common.{◌≡◌, ℕ, ◌-◌, ◌*◌, ◌<◌, false, eqb, List, length, take, drop, Some, None, Ok, Err, Option, refl, ap, ◌∙◌, arith}
 use Rattle.std.proofs.lemmas.List.{take_rest}
-use Rattle.std.proofs.lemmas.Bool.{eq-eqb, ne_eqb}
+use Rattle.std.proofs.lemmas.Bool.{ne_eqb}
 use Rattle.letters.specs.Forms.{Form}
 use Rattle.letters.specs.declared.parts.Parts.{Parts}
-use Rattle.records.specs.Reading.{Undoes, parts_left, read_answer}
-use Rattle.records.specs.Readers.{at_end, right, wrong, found, left, looked_at}
+use Rattle.records.specs.Reading.{parts_left, read_answer}
+use Rattle.records.specs.Readers.{right, wrong, found, left, looked_at}
 use Rattle.records.specs.Records.{record_size, wrong_front}
 
 -- the part of the file that the reader looks at
@@ -22,9 +22,6 @@ answered_right None e = refl
 answered_right (Some place) e = let z : ◌≡◌ {A = ℕ} 0 1 = cc in absurd (omega arith)
 
 module _ {B : Type 0} (form : Form B) (bs : List ℕ) where
-  pub found_end : length bs ≡ 0 → found form bs ≡ at_end
-  found_end none = let e : eqb (length bs) 0 ≡ true = eq-eqb (length bs) 0 none in rw e
-
   some_found : 0 < length bs → found form bs ≡ looked_at (wrong_front form bs)
   some_found some = let e : eqb (length bs) 0 ≡ false = ne_eqb (length bs) 0 (λ z. omega arith) in rw e
 
@@ -41,10 +38,3 @@ module _ {B : Type 0} (form : Form B) (bs : List ℕ) where
   found_right old new some is filled =
       let f = answered_right (wrong_front form bs) is in
       (some_found some ∙ ap looked_at f, filled ∙ ap (λ o. parts_left form bs o old) f)
-
-  -- where nothing is left, no record is read
-  pub undoes_none : (accepted : Type 0) (read : Parts B) → length bs ≡ 0 → ¬ accepted → Undoes form bs accepted read
-  undoes_none accepted read none never = record {
-    known = λ m begins. absurd (omega (arith, begins.0));
-    only = λ a. absurd (never a);
-  }

@@ -1,13 +1,7 @@
 -- Bytes written over a part of others.
 use Rattle.std.proofs.Common.{◌≡◌, ℕ, ◌+◌, List, [], ◌++◌, length, take, drop, sym, refl, ap, ◌∙◌, append_assoc, arith}
-use borrow.Rule.Slice.PartMut.{put_mid}
 use Rattle.std.proofs.lemmas.List.{drop-drop, drop_at, take_at, append-nil, drop_all, length-drop, length-append}
 use Rattle.records.specs.Buffers.{overlaid}
-
--- a part that holds the new bytes
-pub overlaid_part : (old new part : List ℕ) (at size : ℕ) → part ≡ new → size ≡ length new → put_mid at size old part ≡ overlaid old at new
-overlaid_part old new part at size same sized =
-    let rest : drop size (drop at old) ≡ drop (at + length new) old = drop-drop size at old ∙ ap (λ n. drop (at + n) old) sized in cc
 
 -- bytes written just after a front
 pub overlaid-after : (front old new : List ℕ) (at : ℕ) → length front ≡ at → overlaid (front ++ old) at new ≡ (front ++ new) ++ drop (length new) old

@@ -1,7 +1,6 @@
-use Rattle.std.proofs.Common.{◌≡◌, ℕ, ◌*◌, ◌<◌, List, [], length, take, drop, get_or, sym, ap, ◌∙◌, arith}
-use Rattle.std.proofs.lemmas.List.{length-set, take_all}
-use Rattle.records.specs.Files.{file_of}
-use Rattle.records.specs.Records.{record_size, wrong_byte}
+use Rattle.std.proofs.Common.{ℕ, ◌<◌, List, [], length, get_or, ap, ◌∙◌, arith}
+use Rattle.std.proofs.lemmas.List.{length-set}
+use Rattle.records.specs.Records.{wrong_byte}
 use Rattle.records.proofs.Filing.{chunk_at, load_more, rest_more}
 use Rattle.records.proofs.Loading.{record_at}
 use Rattle.records.proofs.file.fill_table.Goals as goal
@@ -29,15 +28,4 @@ loop-index-preserved g c =
       length-set c.loop-index.table i m ∙ inv.0,
       load_more form bs c.loop-index.table i m within (c.read_letter.ensures ∙ piece) inv.1,
       rest_more form c.args.table.now c.loop-index.table i m inv.2,
-    )
-
-pub returns : goal.returns
-returns g c =
-    let form = g.B.Body.form in
-    let bs : List ℕ = c.args.bytes.now in
-    let i : ℕ = c.loop-index.index in
-    let inv = c.loop-index.invariant in
-    let all : i ≡ c.args.count = omega (arith, c.requires.whole, c.as_chunks.ensures.front_len) in (
-      sym (ap (λ n. file_of form (take n c.loop-index.table)) all) ∙ inv.1 ∙ take_all (record_size * i) bs (omega (arith, c.requires.whole)),
-      sym (ap (λ n. drop n c.loop-index.table) all) ∙ inv.2 ∙ ap (λ n. drop n c.args.table.now) all,
     )

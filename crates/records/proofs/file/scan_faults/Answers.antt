@@ -8,9 +8,6 @@ use Rattle.records.proofs.Faults.{among_right, among_wrong}
 use Rattle.records.proofs.Filing.{chunk_first, chunk_front, chunk_rest}
 use Rattle.records.proofs.file.scan_faults.Goals as goal
 
-pub loop-index-init : goal.loop-index-init
-loop-index-init g c = (search rules, search rules, search rules, search rules, search rules)
-
 pub returns-in-Some-first_wrong : goal.returns-in-Some-first_wrong
 returns-in-Some-first_wrong g c =
     let form = g.B.Body.form in
@@ -53,13 +50,3 @@ loop-index-preserved g c =
       ap (λ n. fault_among form bs n (begun_records bs - n)) count
           ∙ sym (among_right form bs i (begun_records bs) some right) ∙ inv.4,
     )
-
-pub returns : goal.returns
-returns g c =
-    let form = g.B.Body.form in
-    let bs : List ℕ = c.args.bytes.now in
-    let steps = c.in-None.ensures.steps in
-    let inv = c.loop-index.invariant in
-    let i : ℕ = c.loop-index.index-iterator.count in
-    let none : begun_records bs - i ≡ 0 = omega (arith, steps.0.1.0, ap length inv.2, length-drop (record_size * i) bs) in
-    sym (ap (fault_among form bs i) none) ∙ inv.4

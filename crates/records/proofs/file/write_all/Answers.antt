@@ -1,5 +1,5 @@
-use Rattle.std.proofs.Common.{◌≡◌, ℕ, ◌*◌, ◌<◌, ◌++◌, length, take, drop, ap, ◌∙◌, arith}
-use Rattle.std.proofs.lemmas.List.{length-take-le, take_all}
+use Rattle.std.proofs.Common.{◌≡◌, ℕ, ◌*◌, ◌<◌, length, take, ap, ◌∙◌, arith}
+use Rattle.std.proofs.lemmas.List.{length-take-le}
 use Rattle.records.specs.Buffers.{overlaid}
 use Rattle.records.specs.Files.{file_of}
 use Rattle.records.specs.Records.{record_size}
@@ -22,13 +22,3 @@ loop-index-preserved g c =
       omega (arith, c.put.auto.out, inv.0),
       c.put.ensures ∙ written ∙ save_more form ms c.args.out.now c.loop-index.out i m (record_long form laws m) front within c.index-letters-index.is inv.1,
     )
-
-pub returns : goal.returns
-returns g c =
-    let form = g.B.Body.form in
-    let ms = c.args.letters.now in
-    let i : ℕ = c.loop-index.index in
-    let all : i ≡ length ms = omega arith in
-    c.loop-index.invariant.1
-    ∙ ap (λ n. file_of form (take n ms) ++ drop (record_size * n) c.args.out.now) all
-    ∙ ap (λ l. file_of form l ++ drop (record_size * length ms) c.args.out.now) (take_all (length ms) ms (omega arith))

@@ -1,20 +1,8 @@
-use Rattle.std.proofs.Common.{ℕ, ◌<◌, List, length, take, sym, refl, ap, ◌∙◌, subst}
+use Rattle.std.proofs.Common.{ℕ, List, take, sym, ap, ◌∙◌, subst}
 use Rattle.records.specs.Reading.{LeftBy, read_answer}
 use Rattle.records.specs.Records.{record_size, wrong_byte}
-use Rattle.records.proofs.RoundTrip.{front_short, front_whole, left_exact, read_undoes}
+use Rattle.records.proofs.RoundTrip.{front_whole, left_exact, read_undoes}
 use Rattle.records.proofs.record.read_front.Goals as goal
-
-pub returns-in-None : goal.returns-in-None
-returns-in-None g c =
-    let form = g.B.Body.form in
-    let laws = g.met.B.Body.lawful in
-    let bs : List ℕ = c.args.bytes.now in
-    let few : length bs < record_size = c.in-None.ensures.cases in
-    let short = front_short form laws bs few in
-    let old = c.args.parts.now in
-    let left = subst (LeftBy form (take record_size bs) old old) (sym short) refl in
-    let is = ap read_answer (sym short) in
-    record { answer = is; filled = left_exact form laws bs old old left; undoes = read_undoes form laws bs old old left _ is }
 
 pub returns-in-Some : goal.returns-in-Some
 returns-in-Some g c =

@@ -1,10 +1,8 @@
-use Rattle.std.proofs.Common.{◌≡◌, ◌+◌, ◌<◌, true, ltb, get_or, sym, ap, ◌∙◌, subst, arith}
+use Rattle.std.proofs.Common.{◌≡◌, ◌+◌, ◌<◌, true, ltb, get_or, sym, ◌∙◌, subst, arith}
 use Rattle.std.proofs.lemmas.Bool.{and_parts}
 use Rattle.carriers.specs.declared.lines.Lines.{Lines}
-use Rattle.carriers.specs.Meaning.{put_answer}
-use Rattle.carriers.specs.Lines.{others_free, lines_of}
+use Rattle.carriers.specs.Lines.{others_free}
 use Rattle.carriers.proofs.Counts.{free_at}
-use Rattle.carriers.proofs.Decisions.{put_ok}
 use Rattle.carriers.proofs.Sending.{Sent, sent_skip, sent_more, sent_all, sent_exact}
 use Rattle.carriers.proofs.lines.carrying.LinesCarrier.put.Goals as goal
 use Rattle.carriers.proofs.lines.carrying.LinesCarrier.put.Goals.{then-other-poster, else-other-poster}
@@ -36,16 +34,12 @@ loop-other-preserved g c =
           (sent_skip old x seat mid c.loop-other.invariant (w.if-other-poster.false ∙ c.poster-poster.ensures))
     ]
 
-pub returns : goal.returns
-returns g c =
-    let old = c.args.self.now in
-    let x = c.args.letter.now in
-    let ended : c.loop-other.other ≡ old.seats = omega (arith, c.loop-other.auto.other-end, c.loop-other-test.false) in
-    let poster = c.poster-poster.ensures in
-    record {
-      answer = sym (ap (put_answer (lines_of old)) (sym poster) ∙ put_ok (lines_of old) c.poster-poster.result c.if-poster-self.false (sym c.fits.ensures ∙ c.if-not-fits.false));
-      leaves = sent_all old x c.loop-other.other c.loop-other.self c.loop-other.invariant ended;
-      exact = sent_exact old x c.loop-other.other c.loop-other.self c.loop-other.invariant ended;
-      size = c.loop-other.invariant.size;
-      kept = tt;
-    }
+pub returns-clause-leaves : goal.returns-clause-leaves
+returns-clause-leaves g c =
+    sent_all c.args.self.now c.args.letter.now c.loop-other.other c.loop-other.self c.loop-other.invariant
+    (omega (arith, c.loop-other.auto.other-end, c.loop-other-test.false))
+
+pub returns-clause-exact : goal.returns-clause-exact
+returns-clause-exact g c =
+    sent_exact c.args.self.now c.args.letter.now c.loop-other.other c.loop-other.self c.loop-other.invariant
+    (omega (arith, c.loop-other.auto.other-end, c.loop-other-test.false))
