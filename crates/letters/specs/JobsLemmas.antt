@@ -1,5 +1,5 @@
 -- A job's bytes tell which job it is, and are right.
-use Rattle.std.specs.Prelude.{◌≡◌, ℕ, ◌+◌, ◌*◌, ◌/◌, ◌%◌, ◌≤◌, Bool, true, false, ◌&&◌, ltb, List, length, Some, None, ◌==◌, nat_lt, slice_index, refl}
+use Rattle.std.specs.Prelude.{◌≡◌, ℕ, ◌+◌, ◌*◌, ◌/◌, ◌%◌, ◌<◌, ◌≤◌, Bool, true, false, ◌&&◌, ltb, List, ◌∷◌, length, Some, None, ◌==◌, nat_lt, slice_index, refl}
 use Rattle.std.proofs.Common.{ap, sym, ⊎_elim, arith}
 use Rattle.std.proofs.lemmas.Bool.{lt-ltb, eqb-true, and_from, or_cases, true≢false}
 use Rattle.letters.specs.declared.job.Job.{Job}
@@ -7,9 +7,10 @@ use Rattle.letters.specs.declared.job.Job.TheVariants.{Add, Strike}
 use Rattle.letters.specs.declared.letter_id.LetterId.{LetterId}
 use Rattle.letters.specs.Forms.{Lawful, Near, body_space}
 use Rattle.letters.specs.Jobs.{job_bytes, job_form, job_of, job_wrong, strike_of, strike_or_none}
-use Rattle.letters.specs.Numbers.{number_16}
+use Rattle.letters.specs.Numbers.{bytes_of_16, bytes_of_32, number_16}
 use Rattle.letters.specs.ChecksLemmas.{near_check, near_cond}
-use Rattle.letters.specs.NumbersLemmas.{made_up_16, made_up_32}
+use Rattle.letters.specs.Listed.{listed}
+use Rattle.letters.specs.NumbersLemmas.{bytes_of_16_back, bytes_of_32_back, made_up_16, made_up_32}
 use Rattle.letters.specs.Same.{same_id}
 
 strike_made : (p n : ℕ) (can : Bool) (e : (nat_lt p 16 && nat_lt 0 n) ≡ can) → can ≡ true
@@ -62,3 +63,19 @@ job_lawful = record {
   near = λ k bs h. job_near bs;
   short = λ k. job_short;
 }
+
+-- five bytes, of which the first is 1, are an addition's
+pub add_listed : (bs : List ℕ) (code : ℕ) → ((i : ℕ) → slice_index bs i < 256) → length bs ≡ 5 → slice_index bs 0 ≡ 1
+    → code ≡ slice_index bs 1 + slice_index bs 2 * 256 + slice_index bs 3 * 65536 + slice_index bs 4 * 16777216
+    → 1 ∷ bytes_of_32 code ≡ bs
+add_listed bs code small five first is =
+    let back = bytes_of_32_back (slice_index bs 1) (slice_index bs 2) (slice_index bs 3) (slice_index bs 4) (small 1) (small 2) (small 3) in
+    let all = listed 5 bs five in cc
+
+-- four bytes, of which the first is 2, are a strike's
+pub strike_listed : (bs : List ℕ) (poster number : ℕ) → ((i : ℕ) → slice_index bs i < 256) → length bs ≡ 4 → slice_index bs 0 ≡ 2
+    → poster ≡ slice_index bs 1 → number ≡ slice_index bs 2 + slice_index bs 3 * 256
+    → 2 ∷ poster ∷ bytes_of_16 number ≡ bs
+strike_listed bs poster number small four first from is =
+    let back = bytes_of_16_back (slice_index bs 2) (slice_index bs 3) (small 2) in
+    let all = listed 4 bs four in cc

@@ -12,6 +12,7 @@ pub mod Lists
 pub mod Logs
 pub mod JobsLemmas
 pub mod ChecksLemmas
+pub mod Listed
 pub mod NumbersLemmas
 pub mod Same
 pub mod TextsLemmas
