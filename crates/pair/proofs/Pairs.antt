@@ -1,14 +1,14 @@
 -- What the steps of a pair come to, by those of its two carriers.
-use Rattle.std.proofs.Common.{◌≡◌, ℕ, ◌+◌, ◌-◌, ◌^◌, ◌<◌, ◌≤◌, min, true, ◌++◌, map, length, get_or, Ok, Err, Result, sym, refl, ap, ◌∙◌, ⊎_elim, arith, length-append}
+use Rattle.std.proofs.Common.{◌≡◌, ℕ, ◌+◌, ◌-◌, ◌^◌, ◌<◌, ◌≤◌, true, ◌++◌, map, length, get_or, Err, Result, sym, refl, ap, ◌∙◌, ⊎_elim, arith}
 use Rattle.std.specs.List.{remove}
-use Rattle.std.proofs.lemmas.List.{get_or_append_left, get_or-append_right, map-append, length-map}
-use Rattle.std.proofs.lemmas.Bool.{and_from, cases_lt}
+use Rattle.std.proofs.lemmas.List.{get_or-append_right, map-append, length-map}
+use Rattle.std.proofs.lemmas.Bool.{cases_lt}
 use Rattle.letters.specs.declared.refusal.Refusal.{Refusal}
 use Rattle.letters.specs.Refusals.{Reason, plain, told}
-use Rattle.carriers.specs.Meaning.{Meaning, PutOn, Drawn, waits_at, put_answer, PutLeaves, draw_answer, DrawLeaves}
+use Rattle.carriers.specs.Meaning.{Meaning, PutOn, waits_at, put_answer, PutLeaves, draw_answer, DrawLeaves}
 use Rattle.carriers.proofs.Decisions.{put_ok, draw_ok, draw_no_seat, draw_no_place, put_accepted, accepted_put, draw_accepted, accepted_draw, draw_refused, refused_draw}
 use Rattle.carriers.proofs.Gained.{gains_append}
-use Rattle.carriers.proofs.Removed.{removed_left, removed_right}
+use Rattle.carriers.proofs.Removed.{removed_right}
 use Rattle.pair.specs.Pairs.{both}
 
 module _ {L : Type 0} where
@@ -16,7 +16,7 @@ module _ {L : Type 0} where
   pub put_joined : (m n m' n' : Meaning L) (p : ℕ) (x : L) (r₁ r₂ : Result (Unit {0}) Refusal) →
       m.seats ≡ n.seats → p < m.seats → m.fits p ≡ true → n.fits p ≡ true →
       told (λ u. u) r₁ ≡ put_answer m p → PutLeaves r₁ m p x m' → told (λ u. u) r₂ ≡ put_answer n p → PutLeaves r₂ n p x n' →
-      (told (λ u. u) r₂ ≡ put_answer (both m n) p) × PutLeaves r₂ (both m n) p x (both m' n')
+      PutLeaves r₂ (both m n) p x (both m' n')
   put_joined m n m' n' p x r₁ r₂ s h f₁ f₂ a₁ l₁ a₂ l₂ =
       let h₂ : p < n.seats = omega arith in
       let yes₂ = put_ok n p h₂ f₂ in
@@ -28,98 +28,41 @@ module _ {L : Type 0} where
           own = let e = d₁.lists.own in let e₂ = d₂.lists.own in rw (e, e₂);
           others = λ k lt ne. gains_append x _ _ _ _ (d₁.lists.others k lt ne) (d₂.lists.others k (omega arith) ne);
         };
-      } in (
-        a₂ ∙ yes₂ ∙ sym (put_ok (both m n) p h (and_from _ _ f₁ f₂)),
-        accepted_put (both m n) (both m' n') p x r₂ (a₂ ∙ yes₂) d,
-      )
-
-  pub waits_joined : (m n : Meaning L) (k a b : ℕ) → m.seats ≡ n.seats → a ≡ waits_at m k → b ≡ waits_at n k → min (a + b) (2 ^ 32 - 1) ≡ waits_at (both m n) k
-  waits_joined m n k a b s e₁ e₂ =
-      let len : length (m.waiting k ++ n.waiting k) ≡ length (m.waiting k) + length (n.waiting k) = length-append _ _ in
-      omega arith
+      } in
+      accepted_put (both m n) (both m' n') p x r₂ (a₂ ∙ yes₂) d
 
   module _ {P : Type 0} (see : L → P) where
     -- what a draw answers and leaves
     abbrev pub Draws : Result (Unit {0}) Refusal → Meaning L → ℕ → ℕ → Meaning L → P → P → Type 0
     Draws r m seat place m' x y = (told (λ u. u) r ≡ draw_answer m seat place) × DrawLeaves see r m seat place m' x y
 
-    module _ (m n : Meaning L) (s : m.seats ≡ n.seats) (seat place : ℕ) (x y : P) (r : Result (Unit {0}) Refusal) where
-      length-joined : length ((both m n).waiting seat) ≡ length (m.waiting seat) + length (n.waiting seat)
-      length-joined = length-append _ _
-
-      -- the pair refuses for the reason that one of the two has
-      refuses : (w : Reason) (m' n' : Meaning L) → told (λ u. u) r ≡ Err w → draw_answer (both m n) seat place ≡ Err w → m' ≡ m → n' ≡ n → y ≡ x → Draws r (both m n) seat place (both m' n') x y
-      refuses w m' n' refused pair-refuses first second lent = (
-        refused ∙ sym pair-refuses,
-        refused_draw (both m n) (both m' n') see seat place x y r w refused (ap (λ v. both v n') first ∙ ap (both m) second, lent),
-      )
-
-      first_refuses : (w : Reason) (m' : Meaning L) → draw_answer m seat place ≡ Err w → draw_answer (both m n) seat place ≡ Err w → Draws r m seat place m' x y → Draws r (both m n) seat place (both m' n) x y
-      first_refuses w m' refused pair-refuses d =
-          let left = draw_refused m m' see seat place x y r w (d.0 ∙ refused) d.1 in
-          refuses w m' n (d.0 ∙ refused) pair-refuses left.0 refl left.1
-
-      second_refuses : (w : Reason) (n' : Meaning L) (at : ℕ) → draw_answer n seat at ≡ Err w → draw_answer (both m n) seat place ≡ Err w → Draws r n seat at n' x y → Draws r (both m n) seat place (both m n') x y
-      second_refuses w n' at refused pair-refuses d =
+    module _ (m n : Meaning L) (seat place : ℕ) (x y : P) (r : Result (Unit {0}) Refusal) where
+      -- the pair refuses for the reason that the second has
+      second_refuses : (w : Reason) (n' : Meaning L) (at : ℕ) → draw_answer n seat at ≡ Err w → Draws r n seat at n' x y → DrawLeaves see r (both m n) seat place (both m n') x y
+      second_refuses w n' at refused d =
           let left = draw_refused n n' see seat at x y r w (d.0 ∙ refused) d.1 in
-          refuses w m n' (d.0 ∙ refused) pair-refuses refl left.0 left.1
-
-      -- the pair draws what one of the two draws
-      draws : (m' n' : Meaning L) → told (λ u. u) r ≡ Ok tt → seat < m.seats → place < waits_at (both m n) seat → m'.seats ≡ n'.seats →
-          Drawn (both m n) seat place (both m' n') → y ≡ get_or (map see ((both m n).waiting seat)) place x → Draws r (both m n) seat place (both m' n') x y
-      draws m' n' said in-range more s' done filled =
-          (said ∙ sym (draw_ok (both m n) seat place in-range more), accepted_draw (both m n) (both m' n') see seat place x y r said (done, filled))
-
-      seen : map see (m.waiting seat ++ n.waiting seat) ≡ map see (m.waiting seat) ++ map see (n.waiting seat)
-      seen = map-append see (m.waiting seat) (n.waiting seat)
-
-      -- a draw at a place of the first
-      pub draw_first : (m' : Meaning L) → place < waits_at m seat → Draws r m seat place m' x y → Draws r (both m n) seat place (both m' n) x y
-      draw_first m' h d = ⊎_elim
-          (λ in-range.
-          let len = length-joined in
-          let near : place < length (m.waiting seat) = omega arith in
-          let mapped = length-map (m.waiting seat) see in
-          let said = d.0 ∙ draw_ok m seat place in-range h in
-          let left = draw_accepted m m' see seat place x y r said d.1 in
-          draws m' n said in-range (omega arith) (left.0.seats ∙ s)
-          (record {
-            seats = left.0.seats;
-            own = ap (λ l. l ++ n.waiting seat) left.0.own ∙ sym (removed_left (m.waiting seat) (n.waiting seat) place near);
-            others = λ k ne. ap (λ l. l ++ n.waiting k) (left.0.others k ne);
-          })
-          (left.1 ∙ sym (ap (λ l. get_or l place x) seen ∙ get_or_append_left (map see (m.waiting seat)) (map see (n.waiting seat)) x place (omega arith))))
-          (λ out. first_refuses (plain 8) m' (draw_no_seat m seat place out) (draw_no_seat (both m n) seat place out) d)
-          (cases_lt seat m.seats)
-
-      -- a place that refused list has
-      pub draw_past : (m' : Meaning L) → 2 ^ 32 - 1 ≤ place → Draws r m seat place m' x y → Draws r (both m n) seat place (both m' n) x y
-      draw_past m' h d = ⊎_elim
-          (λ in-range. first_refuses (plain 14) m' (draw_no_place m seat place in-range (omega arith)) (draw_no_place (both m n) seat place in-range (omega arith)) d)
-          (λ out. first_refuses (plain 8) m' (draw_no_seat m seat place out) (draw_no_seat (both m n) seat place out) d)
-          (cases_lt seat m.seats)
+          refused_draw (both m n) (both m n') see seat place x y r w (d.0 ∙ refused) (ap (both m) left.0, left.1)
 
       -- a draw at a place of the second
-      pub draw_second : (n' : Meaning L) (ahead : ℕ) → ahead ≡ waits_at m seat → ahead ≤ place → place < 2 ^ 32 - 1 → Draws r n seat (place - ahead) n' x y → Draws r (both m n) seat place (both m n') x y
+      pub draw_second : (n' : Meaning L) (ahead : ℕ) → ahead ≡ waits_at m seat → ahead ≤ place → place < 2 ^ 32 - 1 → Draws r n seat (place - ahead) n' x y → DrawLeaves see r (both m n) seat place (both m n') x y
       draw_second n' ahead e h low d = ⊎_elim
           (λ in-range.
-          let in_range' : seat < n.seats = omega arith in
-          let len = length-joined in
           let all : ahead ≡ length (m.waiting seat) = omega arith in
           let mapped : length (map see (m.waiting seat)) ≡ ahead = length-map (m.waiting seat) see ∙ sym all in
           let there : place ≡ length (m.waiting seat) + (place - ahead) = omega arith in
           ⊎_elim
           (λ near.
-          let said = d.0 ∙ draw_ok n seat (place - ahead) in_range' near in
+          let said = d.0 ∙ draw_ok n seat (place - ahead) in-range near in
           let left = draw_accepted n n' see seat (place - ahead) x y r said d.1 in
-          draws m n' said in-range (omega arith) (s ∙ sym left.0.seats)
-          (record {
-            seats = refl;
-            own = ap (λ l. m.waiting seat ++ l) left.0.own ∙ sym (ap (remove (m.waiting seat ++ n.waiting seat)) there ∙ removed_right (m.waiting seat) (n.waiting seat) (place - ahead));
-            others = λ k ne. ap (λ l. m.waiting k ++ l) (left.0.others k ne);
-          })
-          (left.1 ∙ sym (ap (λ l. get_or l place x) seen ∙ get_or-append_right (map see (m.waiting seat)) (map see (n.waiting seat)) ahead place x mapped h)))
-          (λ far. second_refuses (plain 14) n' (place - ahead) (draw_no_place n seat (place - ahead) in_range' far) (draw_no_place (both m n) seat place in-range (omega arith)) d)
+          accepted_draw (both m n) (both m n') see seat place x y r said (
+            record {
+              seats = refl;
+              own = ap (λ l. m.waiting seat ++ l) left.0.own ∙ sym (ap (remove (m.waiting seat ++ n.waiting seat)) there ∙ removed_right (m.waiting seat) (n.waiting seat) (place - ahead));
+              others = λ k ne. ap (λ l. m.waiting k ++ l) (left.0.others k ne);
+            },
+            left.1 ∙ sym (ap (λ l. get_or l place x) (map-append see (m.waiting seat) (n.waiting seat)) ∙ get_or-append_right (map see (m.waiting seat)) (map see (n.waiting seat)) ahead place x mapped h),
+          ))
+          (λ far. second_refuses (plain 14) n' (place - ahead) (draw_no_place n seat (place - ahead) in-range far) d)
           (cases_lt (place - ahead) (waits_at n seat)))
-          (λ out. second_refuses (plain 8) n' (place - ahead) (draw_no_seat n seat (place - ahead) (omega arith)) (draw_no_seat (both m n) seat place out) d)
-          (cases_lt seat m.seats)
+          (λ out. second_refuses (plain 8) n' (place - ahead) (draw_no_seat n seat (place - ahead) out) d)
+          (cases_lt seat n.seats)

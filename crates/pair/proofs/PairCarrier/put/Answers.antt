@@ -2,8 +2,8 @@ use Rattle.std.proofs.Common.{◌≡◌, ◌<◌, true, sym, ap, ◌∙◌, arit
 use Rattle.pair.proofs.Pairs.{put_joined}
 use Rattle.pair.proofs.PairCarrier.put.Goals as goal
 
-pub returns : goal.returns
-returns g c =
+pub returns-clause-leaves : goal.returns-clause-leaves
+returns-clause-leaves g c =
     let m = g.C.Carrier.meaning c.args.self.now.first in
     let n = g.D.Carrier.meaning c.args.self.now.second in
     let p = c.poster-poster.result in
@@ -14,5 +14,4 @@ returns g c =
     let two = c.put-2.ensures in
     let fits₁ : m.fits c.args.letter.now.poster ≡ true = ap m.fits (sym is) ∙ sym c.fits.ensures ∙ c.if-not-fits.false in
     let fits₂ : n.fits c.args.letter.now.poster ≡ true = ap n.fits (sym is) ∙ sym c.fits-else-not-fits.ensures ∙ c.if-not-fits-2.false in
-    let both = put_joined m n _ _ c.args.letter.now.poster c.args.letter.now _ _ level (omega arith) fits₁ fits₂ one.answer one.leaves two.answer two.leaves in
-    record { answer = both.0; leaves = both.1 }
+    put_joined m n _ _ c.args.letter.now.poster c.args.letter.now _ _ level (omega arith) fits₁ fits₂ one.answer one.leaves two.answer two.leaves
