@@ -61,19 +61,3 @@ module _ {B : Type 0} (st : RoomState) (ok : Sound st) (holds : List (Letter B))
       (λ lt. inl (omega (arith, suc-mul t row, ok.placed t, mul-le-mul_right {m = suc t} {n = s} row (omega arith))))
       (λ ge. inr (omega (arith, suc-mul s row, mul-le-mul_right {m = suc s} {n = t} row (omega arith))))
       (cases_lt t s))
-
--- a seat that keeps one letter more at the end of its hold, and the other seats
-module _ {B : Type 0} (st : RoomState) (ok : Sound st) (holds : List (Letter B)) (s : ℕ) (inside : s < st.count) (x : Seat) (m : Letter B)
-    (one_more : x.held ≡ (seat_at st s).held + 1) (short : (seat_at st s).held < st.count * st.quota) (long : start st st.count ≤ length holds) where
-  pub hold_gains : hold_of (with_seat st s x) (set holds (start st s + (seat_at st s).held) m) s ≡ hold_of st holds s ++ m ∷ []
-  hold_gains =
-      let table = set holds (start st s + (seat_at st s).held) m in
-      ap (λ y. part (start st s) y.held table) (told_seat st ok s inside x)
-      ∙ ap (λ n. part (start st s) n table) one_more
-      ∙ part_push holds (start st s) (seat_at st s).held m (omega (arith, mul-add-lt s (st.count * st.quota) (seat_at st s).held st.count inside short))
-
-  pub hold_rests : (t : ℕ) → t ≢ s → hold_of (with_seat st s x) (set holds (start st s + (seat_at st s).held) m) t ≡ hold_of st holds t
-  hold_rests t ne =
-      ap (λ y. part (start st t) y.held (set holds (start st s + (seat_at st s).held) m)) (other_seat st ok s inside x t ne)
-      ∙ part_set_out holds (start st t) (seat_at st t).held (start st s + (seat_at st s).held) m
-      (rows_apart (st.count * st.quota) s t (seat_at st s).held (seat_at st t).held (λ e. ne (sym e)) short (ok.placed t))
