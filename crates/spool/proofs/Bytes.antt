@@ -1,6 +1,6 @@
 -- Rows of 98 bytes and their parts.
 use Rattle.std.proofs.Common.{◌≡◌, ℕ, ◌+◌, ◌-◌, ◌*◌, ◌<◌, ◌≤◌, List, length, get_or, take, drop, set, sym, ap, ◌∙◌, arith, length-drop, length-set}
-use Rattle.std.proofs.lemmas.List.{get_or-take, get_or-drop, take-take, length-take-le, ext_get_or, take-set-le, drop-set-lt, drop-set-add, get_or-set_same, get_or-set_other, drop-drop}
+use Rattle.std.proofs.lemmas.List.{get_or-take, get_or-drop, take-take, length-take-le, ext_get_or, take-set-le, drop-set-add, get_or-set_same, get_or-set_other, drop-drop}
 use Rattle.carriers.specs.Places.{OnlyAt}
 use Rattle.carriers.proofs.Rows.{other_queue}
 use Rattle.spool.specs.Rows.{mask_of, record_part, row_at}
@@ -38,15 +38,6 @@ only_wider start n m a b le only =
 module _ (bytes : List ℕ) (row x y : ℕ) (fits : row * 98 + 98 ≤ length bytes) where
   abbrev pub ending : List ℕ
   ending = set (set bytes (row * 98 + 96) x) (row * 98 + 96 + 1) y
-
-  pub length_ending : length ending ≡ length bytes
-  length_ending = length-set _ _ _ ∙ length-set _ _ _
-
-  pub only_ending : OnlyAt (row * 98) 98 bytes ending
-  only_ending = (
-    take-set-le (row * 98) _ _ y (omega arith) ∙ take-set-le (row * 98) bytes _ x (omega arith),
-    drop-set-lt (row * 98 + 98) _ _ y (omega arith) ∙ drop-set-lt (row * 98 + 98) bytes _ x (omega arith),
-  )
 
   pub mask_ending : mask_of (row_at ending row) ≡ x + y * 256
   mask_ending =

@@ -1,19 +1,12 @@
-use Rattle.std.proofs.Common.{◌≡◌, ◌≤◌, length, refl, ap, rules}
+use Rattle.std.proofs.Common.{refl, ap}
 use Rattle.std.proofs.lemmas.Result.{err_from_is_err_and}
 use Rattle.lives.specs.declared.moves.Move.TheVariants.{Collect}
 use Rattle.lives.specs.Traces.{dockets}
 use Rattle.lives.specs.Worked.{further, moment, nowhere}
 use Rattle.rooms.specs.States.{slip, state}
 use Rattle.branch.specs.Desks.{standing}
-use Rattle.branch.proofs.Dispatching.{collect_good, dispatch_follows}
+use Rattle.branch.proofs.Dispatching.{dispatch_follows}
 use Rattle.branch.proofs.desk.Desk.collect.Goals as goal
-
-pub dispatch-requires : goal.dispatch-requires
-dispatch-requires g c =
-    let w = standing g.C.Carrier.meaning c.args.self.now in
-    let sized : length w.room.seats ≡ 16 = search rules in
-    let few : w.room.count ≤ 16 = search rules in
-    collect_good w.room (state c.collect.new.self) sized few c.args.seat (slip c.in_ok-docket.docket) c.in_ok-docket.ensures.answer c.collect.ensures.room
 
 pub returns-in_err-docket : goal.returns-in_err-docket
 returns-in_err-docket g c =

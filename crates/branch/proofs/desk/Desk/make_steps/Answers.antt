@@ -28,9 +28,3 @@ loop-step-preserved g c =
       within = omega arith;
       made = made_more before.made c.saturating_add.ensures (rw front at stepped);
     })
-
-pub returns : goal.returns
-returns g c =
-    let left = ap length c.loop-step.invariant.rest ∙ length-drop (length c.loop-step.yielded * 8) c.args.bytes.now in
-    let none' = c.in-None.ensures.steps.1.0 in
-    record { steps = length c.loop-step.yielded; whole = omega arith; made = c.loop-step.invariant.made }

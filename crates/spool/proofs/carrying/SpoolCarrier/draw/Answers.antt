@@ -2,15 +2,14 @@ use Rattle.std.proofs.Common.{◌≡◌, ◌<◌, length, get_or, sym, ap, ◌�
 use Rattle.std.proofs.lemmas.List.{get_or-map}
 use Rattle.letters.specs.Letters.{parts_of}
 use Rattle.carriers.specs.Meaning.{Drawn}
-use Rattle.carriers.proofs.Decisions.{draw_ok}
 use Rattle.spool.specs.Decoding.{letter_of}
 use Rattle.spool.specs.Rows.{letters_at, marks_at}
 use Rattle.spool.specs.Spools.{spool_of}
 use Rattle.spool.proofs.Picks.{picks_at, picks_grow}
 use Rattle.spool.proofs.carrying.SpoolCarrier.draw.Goals as goal
 
-pub returns : goal.returns
-returns g c =
+pub returns-clause-leaves : goal.returns-clause-leaves
+returns-clause-leaves g c =
     let s = c.args.self.now in
     let b = s.tape.bytes.now in
     let i = c.find-row.result in
@@ -24,12 +23,7 @@ returns g c =
     let test = marks_at b seat in
     let item = letters_at read b in
     let below : place < length (m.waiting seat) = subst (λ p. p < length (m.waiting seat)) f.place (picks_grow test item i s.rows f.row f.marked) in
-    let at : get_or (m.waiting seat) place (item i) ≡ item i = ap (λ p. get_or (m.waiting seat) p (item i)) (sym f.place) ∙ picks_at test item i s.rows (item i) f.row f.marked in
-    record {
-      answer = sym (draw_ok m seat place c.if-seat-self.false (subst (λ w. place < w) c.waits.ensures c.if-place-waits.false));
-      leaves = (
-        subst (λ p. Drawn m seat p (spool_of form blank c.strike.new.self)) f.place c.strike.ensures,
-        c.read.ensures ∙ sym (get_or-map parts_of (m.waiting seat) place (item i) _ below ∙ ap parts_of at),
-      );
-      kept = tt;
-    }
+    let at : get_or (m.waiting seat) place (item i) ≡ item i = ap (λ p. get_or (m.waiting seat) p (item i)) (sym f.place) ∙ picks_at test item i s.rows (item i) f.row f.marked in (
+      subst (λ p. Drawn m seat p (spool_of form blank c.strike.new.self)) f.place c.strike.ensures,
+      c.read.ensures ∙ sym (get_or-map parts_of (m.waiting seat) place (item i) _ below ∙ ap parts_of at),
+    )

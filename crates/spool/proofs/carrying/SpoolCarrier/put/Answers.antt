@@ -1,9 +1,8 @@
-use Rattle.std.proofs.Common.{◌≡◌, ℕ, ◌+◌, ◌*◌, ◌^◌, ◌<◌, ◌≤◌, cond, eqb, ltb, length, sym, refl, ap, ◌∙◌, subst, arith}
+use Rattle.std.proofs.Common.{◌≡◌, ℕ, ◌+◌, ◌*◌, ◌^◌, ◌<◌, ◌≤◌, cond, eqb, ltb, length, sym, refl, ap, ◌∙◌, subst, arith, rules}
 use lib.Count.{ones}
-use Rattle.std.proofs.lemmas.Bool.{and_parts, cond-false, cond-true, eqb-false, eqb-true, leb-true}
-use Rattle.carriers.specs.Meaning.{put_answer}
+use Rattle.std.proofs.lemmas.Bool.{and_parts, cond-false, eqb-false, eqb-true, leb-true}
 use Rattle.carriers.proofs.Appended.{put_appended}
-use Rattle.carriers.proofs.Decisions.{put_ok}
+use Rattle.std.proofs.lemmas.Grind.{common_steps}
 use Rattle.spool.specs.Decoding.{letter_of}
 use Rattle.spool.specs.Masks.{all_but}
 use Rattle.spool.specs.Rows.{mask_of, row_at, row_fits}
@@ -56,7 +55,7 @@ returns-then-not-is_done g c =
     (c.set_mask.ensures.mask ∙ mask_is)
     (ap read (c.set_mask.ensures.letter ∙ c.write.ensures.letter) ∙ letter_back blank form g.met.B.Body.lawful x) in
     record {
-      answer = sym (ap (put_answer m) (sym is) ∙ put_ok m c.poster-poster.result c.if-poster-self.false (sym c.fits.ensures ∙ c.if-not-fits.false));
+      answer = search rules;
       leaves = put_appended m (spool_meaning read s.seats (s.rows + 1) a) x.poster x refl exact;
       exact = exact;
       row = (
@@ -80,12 +79,9 @@ returns-else-not-is_done g c =
     let none : c.all_but-mask.result ≡ 0 = ones_none s.seats _ (eqb-true _ _ (sym c.is_done.ensures ∙ c.if-not-is_done.false)) few in
     let exact = nobody_else (letter_of form blank) s.seats s.rows b x.poster x (subst (λ p. p < s.seats) is c.if-poster-self.false) (sym mask_is ∙ none) in
     record {
-      answer = sym (ap (put_answer m) (sym is) ∙ put_ok m c.poster-poster.result c.if-poster-self.false (sym c.fits.ensures ∙ c.if-not-fits.false));
+      answer = search rules;
       leaves = put_appended m m x.poster x refl exact;
       exact = exact;
-      row = (
-        sym (ap (λ n. cond (eqb (ones n) 0) s.rows (s.rows + 1)) (sym mask_is) ∙ cond-true _ _ _ (sym c.is_done.ensures ∙ c.if-not-is_done.false)),
-        λ r low high. absurd (omega arith),
-      );
+      row = grind (arith, common_steps);
       kept = tt;
     }
