@@ -1,5 +1,5 @@
 // Where a seat's docket is: the slip for its newest letter, until that is sent.
-#[derive(Clone, Copy, PartialEq)]
+#[derive(Clone, Copy, PartialEq, Eq)]
 pub enum DocketState {
     // There is none: all that the seat posted is sent.
     Clear,

@@ -40,16 +40,8 @@ impl Docket {
         self.number
     }
 
-    // The docket of these numbers. It is no `From`, and stays within the crate: outside it nobody can make a docket.
-    pub(crate) fn of(numbers: Slip) -> Docket
-        ensures { slip result ≡ numbers }
-    {
-        let Slip { room, seat, number } = numbers;
-        Docket { room, seat, number }
-    }
-
-    // Its numbers, where it stays.
-    pub(crate) fn slip(&self) -> Slip
+    // All three.
+    pub fn slip(&self) -> Slip
         ensures { result ≡ slip self.now }
     {
         let Docket { room, seat, number } = self;
@@ -58,6 +50,14 @@ impl Docket {
             seat: *seat,
             number: *number,
         }
+    }
+
+    // The docket of these numbers. It is no `From`, and stays within the crate: outside it nobody can make a docket.
+    pub(crate) fn of(numbers: Slip) -> Docket
+        ensures { slip result ≡ numbers }
+    {
+        let Slip { room, seat, number } = numbers;
+        Docket { room, seat, number }
     }
 
     // Its numbers, where it is spent. It is no `From`, and stays within the crate: outside it nobody can let a docket fall.

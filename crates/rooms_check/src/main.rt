@@ -96,96 +96,62 @@ fn print_reply(rt: &HostRuntime, reply: Reply) -> io::Result<()> {
     }
 }
 
-fn print_log(
-    rt: &HostRuntime,
-    room: &Room,
-    logs: &[Letter<Job>],
-    holds: &[Letter<Job>],
-    seat: u8,
-) -> io::Result<()> {
-    print!(rt; "log {seat}")?;
-    if let Ok(log) = room.log(logs, holds, seat) {
-        for letter in log {
-            print!(rt; " {}", letter.id())?;
+// A room at work, with the tables and the carrier that are brought to its calls.
+#[derive(Drop)]
+struct Desk<'t, C> {
+    room: Room,
+    logs: &'t mut [Letter<Job>],
+    holds: &'t mut [Letter<Job>],
+    carrier: C,
+}
+
+impl<C: Carrier<Body = Job>> Desk<'_, C> {
+    // Makes the step that the bytes write, and prints what the room replies.
+    fn make_step(&mut self, rt: &HostRuntime, bytes: &[u8]) -> Result<(), Stop> {
+        let asked = read_move(bytes)?;
+        let reply = self
+            .room
+            .step(self.logs, self.holds, &mut self.carrier, asked)?;
+        print_reply(rt, reply)?;
+        Ok(())
+    }
+
+    fn make_steps(&mut self, rt: &HostRuntime, steps: &[u8]) -> io::Result<()> {
+        for bytes in steps.chunks_exact(12) {
+            tell(rt, self.make_step(rt, bytes))?;
         }
+        Ok(())
     }
-    println!(rt; "")
-}
 
-fn print_jobs(
-    rt: &HostRuntime,
-    room: &Room,
-    logs: &[Letter<Job>],
-    holds: &[Letter<Job>],
-    seat: u8,
-) -> Result<(), Stop> {
-    let mut sheet = JobList::new();
-    room.draw_up(logs, holds, seat, &mut sheet)?;
-    print!(rt; "jobs {seat}")?;
-    for job in sheet.jobs() {
-        print!(rt; " {}.{}={}", job.poster, job.number, job.code)?;
+    fn print_log(&self, rt: &HostRuntime, seat: u8) -> io::Result<()> {
+        print!(rt; "log {seat}")?;
+        if let Ok(log) = self.room.log(self.logs, self.holds, seat) {
+            for letter in log {
+                print!(rt; " {}", letter.id())?;
+            }
+        }
+        println!(rt; "")
     }
-    println!(rt; "")?;
-    Ok(())
-}
 
-fn print_seats(
-    rt: &HostRuntime,
-    room: &Room,
-    logs: &[Letter<Job>],
-    holds: &[Letter<Job>],
-    seats: u8,
-) -> io::Result<()> {
-    // A seat's number is what the calls take, here and below; nothing is looked up by it.
-    for seat in 0..seats {
-        print_log(rt, room, logs, holds, seat)?;
-        tell(rt, print_jobs(rt, room, logs, holds, seat))?;
+    fn print_jobs(&self, rt: &HostRuntime, seat: u8) -> Result<(), Stop> {
+        let mut sheet = JobList::new();
+        self.room.draw_up(self.logs, self.holds, seat, &mut sheet)?;
+        print!(rt; "jobs {seat}")?;
+        for job in sheet.jobs() {
+            print!(rt; " {}.{}={}", job.poster, job.number, job.code)?;
+        }
+        println!(rt; "")?;
+        Ok(())
     }
-    Ok(())
-}
 
-// Makes the step that the bytes write, and prints what the room replies.
-fn make_step<C: Carrier<Body = Job>>(
-    rt: &HostRuntime,
-    room: &mut Room,
-    logs: &mut [Letter<Job>],
-    holds: &mut [Letter<Job>],
-    carrier: &mut C,
-    bytes: &[u8],
-) -> Result<(), Stop> {
-    let reply = room.step(logs, holds, carrier, read_move(bytes)?)?;
-    print_reply(rt, reply)?;
-    Ok(())
-}
-
-fn make_steps<C: Carrier<Body = Job>>(
-    rt: &HostRuntime,
-    room: &mut Room,
-    logs: &mut [Letter<Job>],
-    holds: &mut [Letter<Job>],
-    carrier: &mut C,
-    steps: &[u8],
-) -> io::Result<()> {
-    for bytes in steps.chunks_exact(12) {
-        tell(rt, make_step(rt, room, logs, holds, carrier, bytes))?;
+    fn print_seats(&self, rt: &HostRuntime, seats: u8) -> io::Result<()> {
+        // A seat's number is what the calls take, here and below; nothing is looked up by it.
+        for seat in 0..seats {
+            self.print_log(rt, seat)?;
+            tell(rt, self.print_jobs(rt, seat))?;
+        }
+        Ok(())
     }
-    Ok(())
-}
-
-fn live<C: Carrier<Body = Job>>(
-    rt: &HostRuntime,
-    draft: Draft,
-    seats: u8,
-    logs: &mut [Letter<Job>],
-    holds: &mut [Letter<Job>],
-    carrier: &mut C,
-    steps: &[u8],
-) -> Result<(), Stop> {
-    draft.check_open(logs, holds, carrier)?;
-    let mut room = draft.open(logs, holds, carrier);
-    make_steps(rt, &mut room, logs, holds, carrier, steps)?;
-    print_seats(rt, &room, logs, holds, seats)?;
-    Ok(())
 }
 
 fn live_on_pair<C: Carrier<Body = Job> + Drop, D: Carrier<Body = Job> + Drop>(
@@ -198,10 +164,19 @@ fn live_on_pair<C: Carrier<Body = Job> + Drop, D: Carrier<Body = Job> + Drop>(
     steps: &[u8],
 ) -> Result<(), Stop> {
     Pair::check(&first, &second)?;
-    let mut pair = Pair::new(first, second);
+    let pair = Pair::new(first, second);
     let mut logs = [blank; PLACES];
     let mut holds = [blank; PLACES];
-    live(rt, draft, seats, &mut logs, &mut holds, &mut pair, steps)
+    draft.check_open(&logs, &holds, &pair)?;
+    let mut desk = Desk {
+        room: draft.open(&logs, &holds, &pair),
+        logs: &mut logs,
+        holds: &mut holds,
+        carrier: pair,
+    };
+    desk.make_steps(rt, steps)?;
+    desk.print_seats(rt, seats)?;
+    Ok(())
 }
 
 // A draft of a room with so many seats, or why there is none.

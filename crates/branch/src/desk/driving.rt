@@ -14,7 +14,6 @@ use carriers::carrier::Carrier;
 use letters::job::Job;
 use letters::refusal::Refusal;
 use rooms::docket::{Docket, Returned};
-use seats::slip::Slip;
 
 impl<C: Carrier<Body = Job>> Desk<'_, C> {
     // Makes one step, and answers what it came to. A docket is sent at once, and parked where that is refused.
@@ -50,11 +49,7 @@ impl<C: Carrier<Body = Job>> Desk<'_, C> {
         requires { good_slip (state self.old.room) (slip docket) ≡ true }
         ensures { Dispatched (slip docket) (standing C.Carrier.meaning self.old) result (standing C.Carrier.meaning self.new) }
     {
-        let slip = Slip {
-            room: docket.room(),
-            seat: docket.seat(),
-            number: docket.number(),
-        };
+        let slip = docket.slip();
         let logs = &mut *self.logs;
         let holds = &mut *self.holds;
         match self.room.send(logs, holds, &mut self.carrier, docket) {
