@@ -1,10 +1,8 @@
 -- What drawing up a seat's log answers and leaves.
-use Rattle.std.proofs.Common.{◌≡◌, ℕ, ◌*◌, ◌≤◌, List, length, drop, Ok, Err, Result, sym, ap, ◌∙◌, arith, length-take}
+use Rattle.std.proofs.Common.{◌≡◌, ℕ, ◌*◌, ◌≤◌, List, length, drop, Ok, sym, ap, ◌∙◌, arith, length-take}
 use Rattle.std.proofs.lemmas.Bool.{le-leb}
 use Rattle.letters.specs.declared.letter.Letter.{Letter}
-use Rattle.letters.specs.declared.refusal.Refusal.{Refusal}
-use Rattle.letters.specs.Refusals.{Reason, told, unless}
-use Rattle.carriers.specs.Meaning.{Kept}
+use Rattle.letters.specs.Refusals.{unless}
 use Rattle.sheets.specs.Sheets.{Kind, draw_up_outcome, drawn_up}
 use Rattle.seats.specs.Keeping.{Sound}
 use Rattle.seats.specs.Outcomes.{follows, seat_check}
@@ -12,16 +10,6 @@ use Rattle.seats.specs.Rooms.{RoomState, log_of, seat_at, start}
 use Rattle.seats.specs.Seats.{log_length}
 use Rattle.seats.proofs.Clocks.{log_fits}
 use Rattle.rooms.specs.Drawing.{places_check, sheet_outcome}
-
--- a yes leaves nothing to be kept
-pub yes_kept : {X : Type 0} (r : Result (Unit {0}) Refusal) (x y : X) → told (λ u. u) r ≡ Ok tt → Kept r x y
-yes_kept (Ok done) x y e = tt
-yes_kept (Err why) x y e = absurd cc
-
--- what drawing up a log comes to, and that it is accepted
-pub record GoesUp {M B : Type 0} (kind : Kind M B) (log : List (Letter B)) (outcome : Result M Reason) : Type 0 where
-  pub accepted : draw_up_outcome kind log ≡ Ok (drawn_up kind log)
-  pub same : draw_up_outcome kind log ≡ outcome
 
 -- a seat's log goes up on a sheet that has places for any log of the room
 module _ {M B : Type 0} (kind : Kind M B) (st : RoomState) (ok : Sound st) (logs : List (Letter B)) (holds s : ℕ) (log : List (Letter B))
@@ -33,15 +21,9 @@ module _ {M B : Type 0} (kind : Kind M B) (st : RoomState) (ok : Sound st) (logs
       let same = ap length is in
       omega arith
 
-  up : draw_up_outcome kind log ≡ Ok (drawn_up kind log)
-  up = ap (λ b. unless b 17 (Ok (drawn_up kind log))) (le-leb _ _ short)
-
-  pub goes_up : GoesUp kind log (sheet_outcome kind st logs holds s)
-  goes_up = record {
-    accepted = up;
-    same =
-        up
-        ∙ ap (λ l. Ok (drawn_up kind l)) is
-        ∙ sym (ap (λ b. unless b 17 (Ok (drawn_up kind (log_of st logs s)))) (le-leb _ _ wide))
-        ∙ ap (λ k. follows k (places_check kind st (Ok (drawn_up kind (log_of st logs s))))) can;
-  }
+  pub goes_up : draw_up_outcome kind log ≡ sheet_outcome kind st logs holds s
+  goes_up =
+      ap (λ b. unless b 17 (Ok (drawn_up kind log))) (le-leb _ _ short)
+      ∙ ap (λ l. Ok (drawn_up kind l)) is
+      ∙ sym (ap (λ b. unless b 17 (Ok (drawn_up kind (log_of st logs s)))) (le-leb _ _ wide))
+      ∙ ap (λ k. follows k (places_check kind st (Ok (drawn_up kind (log_of st logs s))))) can

@@ -30,11 +30,6 @@ Makes move w answer w' = record { step : Step move w answer w'; works : WorksOn 
 makes : {B : Type 0} {move : Move B} {w w' : Moment B} {answer : traces.Answer} → Step move w answer w' → Makes move w answer w'
 makes step = record { step = step; works = works_on _ _ _ _ step }
 
--- a step that was asked for, with the answer that was given
-pub made_as : {B : Type 0} (asked move : Move B) (w : Moment B) (given answer : traces.Answer) (w' : Moment B) → asked ≡ move → given ≡ answer
-    → Makes move w answer w' → Makes asked w given w'
-made_as asked move w given answer w' is told made = subst (λ m. Makes m w given w') (sym is) (subst (λ a. Makes move w a w') (sym told) made)
-
 -- From what each call promises, of a room with its tables and its carrier before and after. A caller with a docket in hand
 -- carries `Worked` on by these.
 pub post_makes : {B : Type 0} {st st' : RoomState} {logs logs' holds : List (Letter B)} {c : Meaning (Letter B)} (s : ℕ) (body : B) (r : Result Slip Reason)

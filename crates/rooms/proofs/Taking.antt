@@ -1,6 +1,6 @@
 -- What an accepted take draws, and what it leaves.
 use Rattle.std.proofs.Common.{◌≡◌, ℕ, ◌<◌, List, map, length, get_or, Ok, Result, ap, ◌∙◌, subst, arith}
-use Rattle.std.proofs.lemmas.List.{get_or_default, get_or-map}
+use Rattle.std.proofs.lemmas.List.{get_or-map}
 use Rattle.std.proofs.lemmas.Bool.{and_from, lt-ltb}
 use Rattle.std.proofs.lemmas.Bool.Decides.{nat_tests}
 use Rattle.letters.specs.declared.letter.Letter.{Letter}
@@ -8,7 +8,6 @@ use Rattle.letters.specs.declared.parts.Parts.{Parts}
 use Rattle.letters.specs.Letters.{letter_check, parts_of}
 use Rattle.letters.specs.Names.{Name}
 use Rattle.letters.specs.Refusals.{Reason, unless}
-use Rattle.letters.specs.Same.{same_letter}
 use Rattle.carriers.specs.Meaning.{Meaning, draw_answer}
 use Rattle.seats.specs.Outcomes.{Take, Takes, Taking, carrier_check, follows, take_check}
 use Rattle.seats.specs.Rooms.{RoomState}
@@ -28,12 +27,6 @@ module _ {B : Type 0} (c : Meaning (Letter B)) (s place : ℕ) (spare : Letter B
 
   pub drawn_can_be : letter_check p.stamp p.poster ≡ Ok tt
   drawn_can_be = ap (λ q. letter_check q.stamp q.poster) drawn_parts ∙ can_be (get_or (c.waiting s) place spare)
-
-  pub drawn_is : (m : Letter B) → parts_of m ≡ p → m ≡ get_or (c.waiting s) place m
-  drawn_is m made =
-      let e = made ∙ drawn_parts in
-      same_letter m (get_or (c.waiting s) place spare) (ap (λ q. q.stamp) e) (ap (λ q. q.poster) e) (ap (λ q. q.body) e)
-      ∙ get_or_default (c.waiting s) place spare m there
 
 -- an accepted take, put together
 pub took : {B : Type 0} (st : RoomState) (logs : ℕ) (holds : List (Letter B)) (c : Meaning (Letter B)) (s place : ℕ) (r : Result (Taking × Name) Reason) (st' : RoomState) (holds' : List (Letter B)) (c' : Meaning (Letter B))

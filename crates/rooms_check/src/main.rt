@@ -64,7 +64,8 @@ fn tell(rt: &HostRuntime, ended: Result<(), Stop>) -> io::Result<()> {
 }
 
 // The step that twelve bytes write: the call, a seat, a 16-bit number, a 32-bit one, a poster, and zeros.
-// The calls are 1 post an add, 2 post a strike, 3 send, 4 park, 5 collect, 6 take, and show by any other.
+// The calls are 1 post an add, 2 post a strike, 3 send, 4 park, 5 collect, 6 take, and show by any other. It is no `TryFrom`:
+// bytes and `Move` are both of other crates.
 fn read_move(bytes: &[u8]) -> Result<Move<Job>, Refusal> {
     let &[call, seat, low, high, a, b, c, d, poster, ..] = bytes else {
         return Ok(Move::Show(0));
@@ -87,6 +88,7 @@ fn read_move(bytes: &[u8]) -> Result<Move<Job>, Refusal> {
     }
 }
 
+// It is no `Display`: a reply is of another crate, and these words are this program's.
 fn print_reply(rt: &HostRuntime, reply: Reply) -> io::Result<()> {
     match reply {
         Reply::Docket(Slip { room, seat, number }) => println!(rt; "docket {room} {seat} {number}"),

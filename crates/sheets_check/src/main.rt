@@ -80,6 +80,7 @@ fn work<K: Sheet>(sheet: &mut K, log: &[Letter<K::Body>], order: Order) -> Resul
     }
 }
 
+// It is no `Display`: a `Result` is of the library, and these words are this program's.
 fn print_answer(rt: &HostRuntime, answer: Result<(), Refusal>) -> io::Result<()> {
     match answer {
         Ok(()) => println!(rt; "done"),

@@ -101,6 +101,7 @@ fn make_letter(poster: u8, number: u16, code: u32) -> Result<Letter<Job>, Refusa
     Letter::new(Stamp { entries }, poster, Job::Add(code))
 }
 
+// It is no `Display`: a `Result` is of the library, and these words are this program's.
 fn print_answer(rt: &HostRuntime, word: &str, answer: Result<(), Refusal>) -> io::Result<()> {
     match answer {
         Ok(()) => println!(rt; "{word}"),
@@ -108,6 +109,7 @@ fn print_answer(rt: &HostRuntime, word: &str, answer: Result<(), Refusal>) -> io
     }
 }
 
+// It is no `Display` either: the parts are of another crate.
 fn print_parts(rt: &HostRuntime, parts: &Parts<Job>) -> io::Result<()> {
     let poster = parts.poster;
     print!(rt; "page {poster}")?;

@@ -8,14 +8,6 @@ use Rattle.rooms.specs.States.{state}
 use Rattle.rooms.proofs.Running.{as_opened, runnable}
 use Rattle.rooms.proofs.run.run.Goals as goal
 
-pub open-room-requires : goal.open-room-requires
-open-room-requires g c =
-    (runnable (draft_state c.args.draft) (length c.args.logs.now) (length c.args.holds.now) (g.C.Carrier.meaning c.args.carrier.now) (length c.args.steps.now) (length c.args.replies.now) c.requires).opens
-
-pub step_all-requires : goal.step_all-requires
-step_all-requires g c =
-    (runnable (draft_state c.args.draft) (length c.args.logs.now) (length c.args.holds.now) (g.C.Carrier.meaning c.args.carrier.now) (length c.args.steps.now) (length c.args.replies.now) c.requires).answered
-
 pub returns : goal.returns
 returns g c =
     let d = c.args.draft in

@@ -4,7 +4,7 @@ use Rattle.seats.specs.Rooms.{start}
 use Rattle.seats.specs.Seats.{log_length}
 use Rattle.lives.proofs.Keeping.{always_keeps}
 use Rattle.rooms.specs.States.{state}
-use Rattle.rooms.proofs.Drawing.{goes_up, yes_kept}
+use Rattle.rooms.proofs.Drawing.{goes_up}
 use Rattle.rooms.proofs.Rooms.{says, sound}
 use Rattle.rooms.proofs.room.Room.draw_up.Goals as goal
 
@@ -20,9 +20,9 @@ returns g c =
     let is = c.log_part.ensures ∙ ap (λ x. take (log_length x) (drop (start (state r) c.args.seat) logs)) reader.is in
     let up = goes_up kind (state r) (sound r) logs (length c.args.holds.now) c.args.seat log reader.can wide is in
     record {
-      answer = drew.answer ∙ ap answered up.same;
-      leaves = drew.leaves ∙ ap (λ o. left_by o (g.K.Sheet.meaning c.args.sheet.now)) up.same;
-      untouched = yes_kept c.draw_up.result _ _ (drew.answer ∙ ap answered up.accepted);
+      answer = drew.answer ∙ ap answered up;
+      leaves = drew.leaves ∙ ap (λ o. left_by o (g.K.Sheet.meaning c.args.sheet.now)) up;
+      untouched = search rules;
       keeps = always_keeps kind g.met.K.Sheet.lawful;
     }
 

@@ -1,4 +1,4 @@
-use Rattle.rooms.proofs.Taking.{drawn_can_be, drawn_is}
+use Rattle.rooms.proofs.Taking.{drawn_can_be}
 use Rattle.rooms.proofs.room.take.draw_letter.Goals as goal
 
 pub make-requires : goal.make-requires
@@ -6,15 +6,3 @@ make-requires g c =
     let drew = c.in_ok-draw.ensures in
     drawn_can_be (g.C.Carrier.meaning c.args.carrier.now) c.args.seat c.args.place c.args.spare _
     c.draw.new.parts drew.answer drew.leaves.1
-
-pub returns : goal.returns
-returns g c =
-    let drew = c.in_ok-draw.ensures in
-    record {
-      answer = drew.answer;
-      leaves = (
-        drew.leaves.0,
-        drawn_is (g.C.Carrier.meaning c.args.carrier.now) c.args.seat c.args.place c.args.spare _
-            c.draw.new.parts drew.answer drew.leaves.1 c.make.result c.make.ensures,
-      );
-    }
