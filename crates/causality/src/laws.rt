@@ -36,12 +36,6 @@ pub fn places<B: Copy>(seats: u8, quota: u16) -> u32
     ensures enough { EnoughPlaces B seats quota }
     ensures delivery { CompleteDelivery B }
 {
-    product(seats, quota)
-}
-
-fn product(seats: u8, quota: u16) -> u32
-    ensures { result ≡ seats * quota }
-{
     seats as u32 * quota as u32
 }
 
@@ -57,7 +51,8 @@ pub fn led_to<B: Copy>(m: &Letter<B>, k: &Letter<B>) -> bool
     was_known(m, k)
 }
 
-// Whether k covers m and is another letter.
+// Whether k covers m and is another letter. A function of its own, since it returns at two places, and each would have to
+// carry the theorems of the one above.
 fn was_known<B: Copy>(m: &Letter<B>, k: &Letter<B>) -> bool
     ensures { result ≡ stamps_say m.now k.now }
 {

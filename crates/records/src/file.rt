@@ -1,5 +1,5 @@
 // Whole files of letters: into a table and back.
-ghost use Rattle.std.specs.Prelude.{◌≡◌, ◌*◌, ◌/◌, ◌≤◌, ◌++◌, length, drop, None, Ok};
+ghost use Rattle.std.specs.Prelude.{◌≡◌, ◌*◌, ◌≤◌, ◌++◌, length, drop, None, Ok};
 ghost use Rattle.letters.specs.Refusals.{told};
 ghost use Rattle.records.specs.Files.{FileLoaded, Loaded, file_fault, file_of, save_answer, saved};
 
@@ -11,15 +11,8 @@ use letters::body::Body;
 use letters::letter::Letter;
 use letters::refusal::Refusal;
 
-// The first fault of a file. One without fault is a whole number of records.
+// The first fault of a file.
 fn first_fault<B: Body>(bytes: &[u8]) -> Option<Fault>
-    ensures fault { result ≡ file_fault B.form bytes.now }
-    ensures whole { result ≡ None → 96 * (length bytes.now / 96) ≡ length bytes.now }
-{
-    scan_faults::<B>(bytes)
-}
-
-fn scan_faults<B: Body>(bytes: &[u8]) -> Option<Fault>
     ensures { result ≡ file_fault B.form bytes.now }
 {
     for (index, record) in bytes.chunks(RECORD_SIZE).enumerate() {
@@ -47,12 +40,6 @@ fn fill_table<B: Body>(bytes: &[u8], table: &mut [Letter<B>], count: usize)
 // Reads a whole file into the front of a table and answers how many letters there were.
 // It looks first: on a no, the table is as it was.
 pub fn load<B: Body>(bytes: &[u8], table: &mut [Letter<B>]) -> Result<usize, LoadRefusal>
-    ensures { FileLoaded B.form bytes.now table.old table.new result }
-{
-    look_and_fill(bytes, table)
-}
-
-fn look_and_fill<B: Body>(bytes: &[u8], table: &mut [Letter<B>]) -> Result<usize, LoadRefusal>
     ensures { FileLoaded B.form bytes.now table.old table.new result }
 {
     if let Some(fault) = first_fault::<B>(bytes) {

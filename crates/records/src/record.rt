@@ -38,13 +38,7 @@ fn assemble(stamp: &[u8; 32], header: &[u8; 4], body: &[u8; BODY_SPACE]) -> [u8;
 pub fn read_record<B: Body>(bytes: &[u8], parts: &mut Parts<B>) -> Result<(), u8>
     ensures { RecordRead B.form bytes.now parts.old parts.new result }
 {
-    read_front(bytes, parts)
-}
-
-fn read_front<B: Body>(bytes: &[u8], parts: &mut Parts<B>) -> Result<(), u8>
-    ensures { RecordRead B.form bytes.now parts.old parts.new result }
-{
-    match bytes.first_chunk() {
+    match bytes.first_chunk::<RECORD_SIZE>() {
         Some(record) => read_whole(record, parts),
         None => Err(bytes.len() as u8),
     }

@@ -27,6 +27,10 @@ sum_le (x ∷ xs) (suc n) q most none =
 pub seat_kept : (st : RoomState) (ok : Sound st) (s : ℕ) → s < 16 → Kept st.count st.quota (seat_at st s)
 seat_kept st ok s lt = record { whole = ok.whole s lt; within = ok.within s; nobody = ok.nobody s; placed = ok.placed s }
 
+-- a kept seat's log keeps to its places
+pub kept_fits : (n q : ℕ) (x : Seat) → Kept n q x → log_length x ≤ n * q
+kept_fits n q x kept = sum_le _ n q kept.within kept.nobody
+
 module _ (n q : ℕ) (few : n ≤ 16) (x : Seat) (kept : Kept n q x) (p : ℕ) (inside : p < n) where
   pub clocked_kept : (v : ℕ) → v ≤ q → Kept n q (clocked x p v)
   clocked_kept v most = record {
@@ -43,7 +47,7 @@ module _ (n q : ℕ) (few : n ≤ 16) (x : Seat) (kept : Kept n q x) (p : ℕ) (
   log_short left =
       let xs = x.clock.entries in
       let next = clocked_kept (get_or xs p 0 + 1) (omega arith) in
-      let most = sum_le _ n q next.within next.nobody in
+      let most = kept_fits n q (clocked x p (get_or xs p 0 + 1)) next in
       let more = sum_by-set (λ e. e) xs p (get_or xs p 0 + 1) 0 (omega (arith, kept.whole)) in
       omega arith
 
@@ -59,7 +63,7 @@ row_end st ok s x inside few =
     let rows = mul-le-mul_right {m = suc s} {n = st.count} (st.count * st.quota) (omega arith) in
     omega (arith, rows, suc-mul s (st.count * st.quota))
 
--- a log keeps to its places
+-- so does the log of any seat of a sound room
 pub log_fits : (st : RoomState) (ok : Sound st) (s : ℕ) → log_length (seat_at st s) ≤ st.count * st.quota
 log_fits st ok s = sum_le _ st.count st.quota (ok.within s) (ok.nobody s)
 

@@ -30,12 +30,6 @@ impl<B: Copy> Letter<B> {
         ensures answer { result ≡ side_by_side self.now other.now }
         ensures decides { Decides result (SideBySide self.now other.now) }
     {
-        self.is_beside(other)
-    }
-
-    fn is_beside(&self, other: &Letter<B>) -> bool
-        ensures { result ≡ side_by_side self.now other.now }
-    {
         !self.stamp.covers(other.id()) && !other.stamp.covers(self.id())
     }
 
@@ -44,12 +38,6 @@ impl<B: Copy> Letter<B> {
         ensures answer { result ≡ same_letter self.now other.now }
         ensures decides { Decides result (SameLetter self.now other.now) }
     {
-        self.agrees(other)
-    }
-
-    fn agrees(&self, other: &Letter<B>) -> bool
-        ensures { result ≡ same_letter self.now other.now }
-    {
         self.id() == other.id()
     }
 
@@ -57,19 +45,6 @@ impl<B: Copy> Letter<B> {
     pub fn is_ready(&self, n: u8, q: u16, seat: u8, clock: &Stamp) -> bool
         ensures answer { result ≡ ready n q seat clock.now self.now }
         ensures decides { Decides result (Ready n q seat (entry_at clock.now) self.now) }
-    {
-        self.is_shown_next(n, q, seat, clock)
-    }
-
-    fn is_shown_next(&self, n: u8, q: u16, seat: u8, clock: &Stamp) -> bool
-        ensures answer { result ≡ ready n q seat clock.now self.now }
-        ensures decides { Decides result (Ready n q seat (entry_at clock.now) self.now) }
-    {
-        self.passes(n, q, seat, clock)
-    }
-
-    fn passes(&self, n: u8, q: u16, seat: u8, clock: &Stamp) -> bool
-        ensures { result ≡ ready n q seat clock.now self.now }
     {
         let number = self.number();
         self.poster < n

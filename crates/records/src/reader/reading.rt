@@ -26,12 +26,6 @@ impl<'a, B: Body> Reader<'a, B> {
     pub fn next(&mut self, parts: &mut Parts<B>) -> Result<Option<usize>, Fault>
         ensures { NextRead B.form self.old self.new parts.old parts.new result }
     {
-        self.read_next(parts)
-    }
-
-    fn read_next(&mut self, parts: &mut Parts<B>) -> Result<Option<usize>, Fault>
-        ensures { NextRead B.form self.old self.new parts.old parts.new result }
-    {
         let at = RECORD_SIZE * self.index;
         let index = self.index;
         if self.bytes.len() - at == 0 {

@@ -2,7 +2,7 @@ use Rattle.std.proofs.Common.{ℕ, List, take, sym, ap, ◌∙◌, subst}
 use Rattle.records.specs.Reading.{LeftBy, read_answer}
 use Rattle.records.specs.Records.{record_size, wrong_byte}
 use Rattle.records.proofs.RoundTrip.{front_whole, left_exact, read_undoes}
-use Rattle.records.proofs.record.read_front.Goals as goal
+use Rattle.records.proofs.record.read_record.Goals as goal
 
 pub returns-in-Some : goal.returns-in-Some
 returns-in-Some g c =

@@ -2,7 +2,7 @@ use Rattle.std.proofs.Common.{◌≡◌, ◌-◌}
 use Rattle.std.specs.Slice.Iter.{chunks_rest, chunks_size}
 use Rattle.records.specs.Files.{begun_records, fault_among, file_fault}
 use Rattle.records.specs.Readers.{left}
-use Rattle.records.proofs.file.scan_faults.Given as goal
+use Rattle.records.proofs.file.first_fault.Given as goal
 
 -- the records so far are right, and what is left of the file is still to come
 abbrev pub invariant-loop-index : goal.invariant-loop-index

@@ -5,7 +5,7 @@ use Rattle.records.specs.Readers.{ahead, next_answer, next_index, next_parts}
 use Rattle.records.specs.Records.{record_size, wrong_front}
 use Rattle.records.proofs.Finding.{found_right, found_wrong, next_part}
 use Rattle.records.proofs.RoundTrip.{undoes_as}
-use Rattle.records.proofs.reader.Reader.read_next.Goals as goal
+use Rattle.records.proofs.reader.Reader.next.Goals as goal
 
 pub returns-in-Err : goal.returns-in-Err
 returns-in-Err g c =
