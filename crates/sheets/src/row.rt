@@ -18,14 +18,11 @@ impl Default for Row {
     ghost is_default = { λ r. (r.rank ≡ 0) × (r.poster ≡ 0) × (r.number ≡ 0) × (text_bytes r.text ≡ []) };
 
     fn default() -> Row {
-        let Ok(text) = Text::new(&[]) else {
-            unreachable()
-        };
         Row {
             rank: 0,
             poster: 0,
             number: 0,
-            text,
+            text: Text::default(),
         }
     }
 }

@@ -22,12 +22,14 @@ row_is (suc k) bs (suc r) h =
     row_is k (drop row_size bs) r (omega arith)
     ∙ ap (take row_size) (drop-drop (r * row_size) row_size bs ∙ ap (λ n. drop n bs) (sym size))
 
--- a test of a row that is lent is the test of the row at its number
+-- the mask of a row that is lent, and a test of it, are those of the row at its number
 module _ (count : ℕ) (bs : List ℕ) (lent : List (List ℕ)) (is : lent ≡ first_chunks row_size count bs) where
   pub all_lent : length lent ≡ count
   all_lent = ap length is ∙ length_rows count bs
 
+  pub lent_mask : (r mask : ℕ) → r < count → mask ≡ mask_of (get_or lent r []) → mask ≡ mask_of (row_at bs r)
+  lent_mask r mask h cut = cut ∙ ap (λ l. mask_of (get_or l r [])) is ∙ ap mask_of (row_is count bs r h)
+
   pub row_marked : (seat r mask : ℕ) (answer : Bool) → r < length lent → mask ≡ mask_of (get_or lent r []) → answer ≡ marked mask seat
       → answer ≡ marks_at bs seat r
-  row_marked seat r mask answer h cut test =
-      test ∙ ap (λ m. marked m seat) (cut ∙ ap (λ l. mask_of (get_or l r [])) is ∙ ap mask_of (row_is count bs r (omega (arith, all_lent))))
+  row_marked seat r mask answer h cut test = test ∙ ap (λ m. marked m seat) (lent_mask r mask (omega (arith, all_lent)) cut)

@@ -74,7 +74,7 @@ impl<'a, B: Stored> Spool<'a, B> {
         requires marked { marks_at self.old.tape.bytes.now seat row ≡ true }
         ensures { Drawn (spool_of B.form B.blank self.old) seat (place_of B.form B.blank self.old seat row) (spool_of B.form B.blank self.new) }
     {
-        let left = self.tape.mask(row) ^ (1 << seat);
+        let left = mask_of(&self.tape.rows(self.rows)[row]) ^ (1 << seat);
         if is_done(left) {
             self.tape.close_up(row, self.rows);
             self.rows -= 1;

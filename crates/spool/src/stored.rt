@@ -21,10 +21,7 @@ impl Stored for Text {
     ghost blank = { text_of [] };
 
     fn make_blank() -> Text {
-        match Text::new(&[]) {
-            Ok(text) => text,
-            Err(_) => unreachable(),
-        }
+        Text::default()
     }
 }
 

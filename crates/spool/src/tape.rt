@@ -39,15 +39,6 @@ impl<'a> Tape<'a> {
         &rows[..count]
     }
 
-    // A row's mask.
-    pub(crate) fn mask(&self, row: usize) -> u16
-        requires { row * row_size + row_size ≤ length self.now.bytes.now }
-        ensures { result ≡ mask_of (row_at self.now.bytes.now row) }
-    {
-        let at = row * ROW_SIZE + RECORD_SIZE;
-        u16::from_le_bytes([self.bytes[at], self.bytes[at + 1]])
-    }
-
     pub(crate) fn set_mask(&mut self, row: usize, mask: u16)
         requires { row * row_size + row_size ≤ length self.old.bytes.now }
         ensures long { length self.new.bytes.now ≡ length self.old.bytes.now }

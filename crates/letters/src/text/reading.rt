@@ -1,5 +1,5 @@
 // Texts as bodies of letters, and the making of a text of any bytes.
-ghost use Rattle.std.specs.Prelude.{◌≡◌, ◌≤◌, not, ◌++◌, length, drop, None};
+ghost use Rattle.std.specs.Prelude.{◌≡◌, ◌≤◌, not, [], ◌++◌, length, drop, None};
 ghost use Rattle.std.specs.List.{position};
 ghost use Rattle.letters.specs.Characters.{longest_text, printable, text_wrong};
 ghost use Rattle.letters.specs.Numbers.{padded};
@@ -45,6 +45,18 @@ impl Text {
         ensures { result.now ≡ text_bytes self.now }
     {
         &self.chars[0..self.len as usize]
+    }
+}
+
+// The text of no characters.
+impl Default for Text {
+    ghost is_default = { λ t. text_bytes t ≡ [] };
+
+    fn default() -> Text {
+        Text {
+            chars: [0; LONGEST_TEXT],
+            len: 0,
+        }
     }
 }
 

@@ -23,11 +23,11 @@ impl Placed for Row {
     }
 }
 
-impl Row {
-    // The row of a letter.
-    pub fn of(letter: &Letter<Text>) -> Row
-        ensures { result ≡ row_of letter.now }
-    {
+// The row of a letter.
+impl From<&Letter<Text>> for Row {
+    ghost from_gives = { λ letter row. row ≡ row_of letter.now };
+
+    fn from(letter: &Letter<Text>) -> Row {
         Row {
             rank: letter.stamp().sum(),
             poster: letter.poster(),
@@ -96,7 +96,7 @@ impl Sheet for Timeline {
         if self.rows.is_full() {
             return Err(Refusal::SheetFull);
         }
-        insert(&mut self.rows, Row::of(letter));
+        insert(&mut self.rows, Row::from(letter));
         Ok(())
     }
 }

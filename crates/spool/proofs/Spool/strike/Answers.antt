@@ -7,8 +7,22 @@ use Rattle.spool.specs.Rows.{mask_of, row_at}
 use Rattle.spool.proofs.Bits.{ones_some, ones_none}
 use Rattle.spool.proofs.Bytes.{kept_rows}
 use Rattle.spool.proofs.Kept.{each_closed, each_written}
+use Rattle.spool.proofs.Rows.{all_lent, lent_mask}
 use Rattle.spool.proofs.Steps.{drawn_mask, drawn_row, turned_below}
 use Rattle.spool.proofs.Spool.strike.Goals as goal
+
+pub offset_bounds-rows-row : goal.offset_bounds-rows-row
+offset_bounds-rows-row g c =
+    let s = c.args.self.now in
+    let long = all_lent s.rows s.tape.bytes.now _ c.rows.ensures in
+    let lent = c.rows.type_inv.1 in
+    omega (arith, c.requires.row)
+
+pub bounds-rows-row : goal.bounds-rows-row
+bounds-rows-row g c =
+    let s = c.args.self.now in
+    let long = all_lent s.rows s.tape.bytes.now _ c.rows.ensures in
+    omega (arith, c.requires.row)
 
 pub invariant_of-self : goal.invariant_of-self
 invariant_of-self g c =
@@ -33,8 +47,9 @@ invariant_of-self-else-is_done g c =
     let i = c.args.row in
     let seat = c.args.seat in
     let e = c.set_mask.ensures in
+    let cut = lent_mask s.rows b _ c.rows.ensures i c.mask_of.result c.requires.row c.mask_of.ensures in
     let shl : (1 * 2 ^ seat) % 65536 ≡ 2 ^ seat = one_shl seat 16 (omega (arith, s.few, c.requires.seat)) in
-    let turned : mask_of (row_at a i) ≡ bit_xor (mask_of (row_at b i)) (2 ^ seat) = e.mask ∙ ap (λ m. bit_xor m ((1 * 2 ^ seat) % 65536)) c.mask.ensures ∙ ap (bit_xor (mask_of (row_at b i))) shl in
+    let turned : mask_of (row_at a i) ≡ bit_xor (mask_of (row_at b i)) (2 ^ seat) = e.mask ∙ ap (λ m. bit_xor m ((1 * 2 ^ seat) % 65536)) cut ∙ ap (bit_xor (mask_of (row_at b i))) shl in
     let some : 0 < mask_of (row_at a i) = subst (λ m. 0 < m) (sym e.mask) (ones_some _ (eqb-false _ _ (sym c.is_done.ensures ∙ c.if-is_done.false))) in
     let few : mask_of (row_at a i) < 2 ^ s.seats = subst (λ m. m < 2 ^ s.seats) (sym turned) (turned_below s.seats (mask_of (row_at b i)) seat (s.seated i c.requires.row) c.requires.seat) in
     let same = kept_rows b a i e.only in
@@ -56,9 +71,10 @@ returns-then-is_done g c =
     let seat = c.args.seat in
     let read = letter_of g.B.Body.form g.B.Stored.blank in
     let e = c.close_up.ensures in
+    let cut = lent_mask s.rows b _ c.rows.ensures i c.mask_of.result c.requires.row c.mask_of.ensures in
     let shl : (1 * 2 ^ seat) % 65536 ≡ 2 ^ seat = one_shl seat 16 (omega (arith, s.few, c.requires.seat)) in
-    let turned : bit_xor c.mask.result ((1 * 2 ^ seat) % 65536) ≡ bit_xor (mask_of (row_at b i)) (2 ^ seat) = ap (λ m. bit_xor m ((1 * 2 ^ seat) % 65536)) c.mask.ensures ∙ ap (bit_xor (mask_of (row_at b i))) shl in
-    let few : bit_xor c.mask.result ((1 * 2 ^ seat) % 65536) < 2 ^ s.seats = subst (λ m. m < 2 ^ s.seats) (sym turned) (turned_below s.seats (mask_of (row_at b i)) seat (s.seated i c.requires.row) c.requires.seat) in
+    let turned : bit_xor c.mask_of.result ((1 * 2 ^ seat) % 65536) ≡ bit_xor (mask_of (row_at b i)) (2 ^ seat) = ap (λ m. bit_xor m ((1 * 2 ^ seat) % 65536)) cut ∙ ap (bit_xor (mask_of (row_at b i))) shl in
+    let few : bit_xor c.mask_of.result ((1 * 2 ^ seat) % 65536) < 2 ^ s.seats = subst (λ m. m < 2 ^ s.seats) (sym turned) (turned_below s.seats (mask_of (row_at b i)) seat (s.seated i c.requires.row) c.requires.seat) in
     let none : bit_xor (mask_of (row_at b i)) (2 ^ seat) ≡ 0 = sym turned ∙ ones_none s.seats _ (eqb-true _ _ (sym c.is_done.ensures ∙ c.if-is_done.true)) few in
     drawn_row read s.seats s.rows b a seat i c.requires.row c.requires.marked e.before e.behind none
 
@@ -71,6 +87,7 @@ returns-else-is_done g c =
     let seat = c.args.seat in
     let read = letter_of g.B.Body.form g.B.Stored.blank in
     let e = c.set_mask.ensures in
+    let cut = lent_mask s.rows b _ c.rows.ensures i c.mask_of.result c.requires.row c.mask_of.ensures in
     let shl : (1 * 2 ^ seat) % 65536 ≡ 2 ^ seat = one_shl seat 16 (omega (arith, s.few, c.requires.seat)) in
-    let turned : mask_of (row_at a i) ≡ bit_xor (mask_of (row_at b i)) (2 ^ seat) = e.mask ∙ ap (λ m. bit_xor m ((1 * 2 ^ seat) % 65536)) c.mask.ensures ∙ ap (bit_xor (mask_of (row_at b i))) shl in
+    let turned : mask_of (row_at a i) ≡ bit_xor (mask_of (row_at b i)) (2 ^ seat) = e.mask ∙ ap (λ m. bit_xor m ((1 * 2 ^ seat) % 65536)) cut ∙ ap (bit_xor (mask_of (row_at b i))) shl in
     drawn_mask read s.seats s.rows b a seat i c.requires.row c.requires.marked (kept_rows b a i e.only) turned e.letter
