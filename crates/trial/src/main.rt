@@ -62,6 +62,7 @@ struct Setting {
 }
 
 // Why the trial of a make ends before its steps are done: what is refused is printed, and the next make is tried.
+// Each program has its own: a crate for an error enum of two cases would be no plainer.
 #[derive(Debug, Drop)]
 enum Stop {
     Refused(Refusal),
