@@ -79,7 +79,7 @@ fn main(rt: HostRuntime) -> io::Result<()> {
     let mut queues = [blank; 12];
     let mut draft = Draft::new(1, 4);
     // Names are any numbers but 0.
-    for name in 1..4 {
+    for name in [1, 2, 3] {
         // A no would show at the opening.
         let _ = draft.enrol(name);
     }

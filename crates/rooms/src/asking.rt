@@ -7,7 +7,7 @@ use letters::letter_id::LetterId;
 use letters::refusal::Refusal;
 use seats::taken::Taken;
 
-// A step with what it brings.
+// A step with what it brings: data, listed or read from bytes, which one match makes; a closure would take the same match.
 pub enum Ask<B> {
     Post(u8, B),
     Send(Docket),

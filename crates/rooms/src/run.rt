@@ -70,6 +70,7 @@ fn step_all<B: Body, C: Carrier<Body = B>>(
     ensures rest { drop (length steps.now) replies.new ≡ drop (length steps.now) replies.old }
 {
     for (i, asked) in steps.iter().enumerate() {
+        // no `iter_mut`: what is written through it is not known of the replies afterwards
         replies[i] = room.step(logs, holds, carrier, *asked);
     }
 }

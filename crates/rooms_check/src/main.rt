@@ -36,6 +36,7 @@ struct Setting {
 }
 
 // Why a step or the whole run ends early: a call says no, or printing fails.
+// Each program has its own: a crate for an error enum of two cases would be no plainer.
 #[derive(Drop)]
 enum Stop {
     Refused(Refusal),
@@ -99,6 +100,7 @@ fn print_reply(rt: &HostRuntime, reply: Reply) -> io::Result<()> {
 }
 
 // A room at work, with the tables and the carrier that are brought to its calls.
+// Each program has its own: inherent impls stay in the type's crate, so one of another crate could have no methods here.
 #[derive(Drop)]
 struct Desk<'t, C> {
     room: Room,
@@ -147,7 +149,7 @@ impl<C: Carrier<Body = Job>> Desk<'_, C> {
     }
 
     fn print_seats(&self, rt: &HostRuntime, seats: u8) -> io::Result<()> {
-        // A seat's number is what the calls take, here and below; nothing is looked up by it.
+        // A seat's number is what the calls take; nothing is looked up by it here.
         for seat in 0..seats {
             self.print_log(rt, seat)?;
             tell(rt, self.print_jobs(rt, seat))?;
@@ -185,8 +187,9 @@ fn live_on_pair<C: Carrier<Body = Job> + Drop, D: Carrier<Body = Job> + Drop>(
 fn make_draft(setting: Setting) -> Result<Draft, Refusal> {
     Draft::check(setting.quota)?;
     let mut draft = Draft::new(7, setting.quota);
-    for seat in 0..setting.seats {
-        draft.enrol(seat as u32 + 100)?;
+    // A name is the value itself.
+    for name in 100..100 + setting.seats as u32 {
+        draft.enrol(name)?;
     }
     Ok(draft)
 }

@@ -26,6 +26,7 @@ enum Order {
 }
 
 impl Order {
+    // No conversion trait: a block may name no order, which is no error, and the `Option` says so.
     fn of(block: &[u8; BLOCK]) -> Option<Order> {
         match block[32] {
             255 => Some(Order::DrawUp),

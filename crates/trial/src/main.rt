@@ -62,6 +62,7 @@ struct Setting {
 }
 
 // Why the trial of a make ends before its steps are done: what is refused is printed, and the next make is tried.
+// Each program has its own: a crate for an error enum of two cases would be no plainer.
 #[derive(Debug, Drop)]
 enum Stop {
     Refused(Refusal),
@@ -92,6 +93,22 @@ impl From<&[u8; 10]> for Setting {
             size: u32::from_le_bytes([c, d, e, f]),
             bytes: usize::from(u16::from_le_bytes([g, h])),
         }
+    }
+}
+
+impl Setting {
+    // How many letters are brought.
+    fn letters_brought(&self) -> usize
+        ensures { result ≤ 64 }
+    {
+        self.letters.min(LETTERS)
+    }
+
+    // How many bytes are brought.
+    fn bytes_brought(&self) -> usize
+        ensures { result ≤ 1024 }
+    {
+        self.bytes.min(BYTES)
     }
 }
 
@@ -163,73 +180,6 @@ fn take_step<C: Carrier<Body = Job>>(
     }
 }
 
-fn take_steps<C: Carrier<Body = Job>>(
-    rt: &HostRuntime,
-    carrier: &mut C,
-    steps: &[u8],
-) -> io::Result<()> {
-    let mut parts = Parts {
-        stamp: Stamp { entries: [0; 16] },
-        poster: 0,
-        body: Job::Add(0),
-    };
-    for bytes in steps.chunks_exact(8) {
-        take_step(rt, carrier, &mut parts, Step::from(bytes))?;
-    }
-    Ok(())
-}
-
-fn try_lines(
-    rt: &HostRuntime,
-    setting: Setting,
-    places: &mut [Letter<Job>],
-    steps: &[u8],
-) -> Result<(), Stop> {
-    Lines::check(places, setting.line_seats, setting.size)?;
-    let mut lines = Lines::new(places, setting.line_seats, setting.size);
-    take_steps(rt, &mut lines, steps)?;
-    Ok(())
-}
-
-fn try_spool(
-    rt: &HostRuntime,
-    setting: Setting,
-    buffer: &mut [u8],
-    steps: &[u8],
-) -> Result<(), Stop> {
-    Spool::<Job>::check(buffer, setting.spool_seats)?;
-    let mut spool = Spool::<Job>::new(buffer, setting.spool_seats);
-    take_steps(rt, &mut spool, steps)?;
-    Ok(())
-}
-
-fn try_pair<C: Carrier<Body = Job> + Drop, D: Carrier<Body = Job> + Drop>(
-    rt: &HostRuntime,
-    first: C,
-    second: D,
-    steps: &[u8],
-) -> Result<(), Stop> {
-    Pair::check(&first, &second)?;
-    let mut pair = Pair::new(first, second);
-    take_steps(rt, &mut pair, steps)?;
-    Ok(())
-}
-
-// A pair of lines, for cable, and a spool, for mobile data.
-fn try_both(
-    rt: &HostRuntime,
-    setting: Setting,
-    places: &mut [Letter<Job>],
-    buffer: &mut [u8],
-    steps: &[u8],
-) -> Result<(), Stop> {
-    Lines::check(places, setting.line_seats, setting.size)?;
-    Spool::<Job>::check(buffer, setting.spool_seats)?;
-    let lines = Lines::new(places, setting.line_seats, setting.size);
-    let spool = Spool::<Job>::new(buffer, setting.spool_seats);
-    try_pair(rt, lines, spool, steps)
-}
-
 // Prints what a make was refused for; a failure to print ends the program.
 fn settle(rt: &HostRuntime, tried: Result<(), Stop>) -> io::Result<()> {
     match tried {
@@ -239,59 +189,103 @@ fn settle(rt: &HostRuntime, tried: Result<(), Stop>) -> io::Result<()> {
     }
 }
 
-// How many letters are brought.
-fn letters_brought(setting: Setting) -> usize
-    ensures { result ≤ 64 }
-{
-    setting.letters.min(LETTERS)
-}
-
-// How many bytes are brought.
-fn bytes_brought(setting: Setting) -> usize
-    ensures { result ≤ 1024 }
-{
-    setting.bytes.min(BYTES)
-}
-
-fn on_lines(
-    rt: &HostRuntime,
+// What every make is tried with: where to print, how the carriers are made, and the steps.
+#[derive(Drop)]
+struct Trial<'a> {
+    rt: &'a HostRuntime,
     setting: Setting,
-    blank: Letter<Job>,
-    steps: &[u8],
-) -> io::Result<()> {
-    println!(rt; "lines")?;
-    let mut cable = [blank; LETTERS];
-    let places = &mut cable[0..letters_brought(setting)];
-    settle(rt, try_lines(rt, setting, places, steps))
+    steps: &'a [u8],
 }
 
-fn on_spool(rt: &HostRuntime, setting: Setting, steps: &[u8]) -> io::Result<()> {
-    println!(rt; "spool")?;
-    let mut mobile = [0; BYTES];
-    let buffer = &mut mobile[0..bytes_brought(setting)];
-    settle(rt, try_spool(rt, setting, buffer, steps))
-}
+impl Trial<'_> {
+    fn take_steps<C: Carrier<Body = Job>>(&self, carrier: &mut C) -> io::Result<()> {
+        let mut parts = Parts {
+            stamp: Stamp { entries: [0; 16] },
+            poster: 0,
+            body: Job::Add(0),
+        };
+        for bytes in self.steps.chunks_exact(8) {
+            take_step(self.rt, carrier, &mut parts, Step::from(bytes))?;
+        }
+        Ok(())
+    }
 
-fn on_pair(rt: &HostRuntime, setting: Setting, blank: Letter<Job>, steps: &[u8]) -> io::Result<()> {
-    println!(rt; "pair")?;
-    let mut cable = [blank; LETTERS];
-    let mut mobile = [0; BYTES];
-    let places = &mut cable[0..letters_brought(setting)];
-    let buffer = &mut mobile[0..bytes_brought(setting)];
-    settle(rt, try_both(rt, setting, places, buffer, steps))
-}
+    fn try_lines(&self, places: &mut [Letter<Job>]) -> Result<(), Stop> {
+        Lines::check(places, self.setting.line_seats, self.setting.size)?;
+        let mut lines = Lines::new(places, self.setting.line_seats, self.setting.size);
+        self.take_steps(&mut lines)?;
+        Ok(())
+    }
 
-fn try_all(rt: &HostRuntime, setting: Setting, blank: Letter<Job>, steps: &[u8]) -> io::Result<()> {
-    on_lines(rt, setting, blank, steps)?;
-    on_spool(rt, setting, steps)?;
-    on_pair(rt, setting, blank, steps)
+    fn try_spool(&self, buffer: &mut [u8]) -> Result<(), Stop> {
+        Spool::<Job>::check(buffer, self.setting.spool_seats)?;
+        let mut spool = Spool::<Job>::new(buffer, self.setting.spool_seats);
+        self.take_steps(&mut spool)?;
+        Ok(())
+    }
+
+    fn try_pair<C: Carrier<Body = Job> + Drop, D: Carrier<Body = Job> + Drop>(
+        &self,
+        first: C,
+        second: D,
+    ) -> Result<(), Stop> {
+        Pair::check(&first, &second)?;
+        let mut pair = Pair::new(first, second);
+        self.take_steps(&mut pair)?;
+        Ok(())
+    }
+
+    // A pair of lines, for cable, and a spool, for mobile data.
+    fn try_both(&self, places: &mut [Letter<Job>], buffer: &mut [u8]) -> Result<(), Stop> {
+        Lines::check(places, self.setting.line_seats, self.setting.size)?;
+        Spool::<Job>::check(buffer, self.setting.spool_seats)?;
+        let lines = Lines::new(places, self.setting.line_seats, self.setting.size);
+        let spool = Spool::<Job>::new(buffer, self.setting.spool_seats);
+        self.try_pair(lines, spool)
+    }
+
+    fn on_lines(&self, blank: Letter<Job>) -> io::Result<()> {
+        println!(self.rt; "lines")?;
+        let mut cable = [blank; LETTERS];
+        let places = &mut cable[0..self.setting.letters_brought()];
+        settle(self.rt, self.try_lines(places))
+    }
+
+    fn on_spool(&self) -> io::Result<()> {
+        println!(self.rt; "spool")?;
+        let mut mobile = [0; BYTES];
+        let buffer = &mut mobile[0..self.setting.bytes_brought()];
+        settle(self.rt, self.try_spool(buffer))
+    }
+
+    fn on_pair(&self, blank: Letter<Job>) -> io::Result<()> {
+        println!(self.rt; "pair")?;
+        let mut cable = [blank; LETTERS];
+        let mut mobile = [0; BYTES];
+        let places = &mut cable[0..self.setting.letters_brought()];
+        let buffer = &mut mobile[0..self.setting.bytes_brought()];
+        settle(self.rt, self.try_both(places, buffer))
+    }
+
+    fn on_all(&self, blank: Letter<Job>) -> io::Result<()> {
+        self.on_lines(blank)?;
+        self.on_spool()?;
+        self.on_pair(blank)
+    }
 }
 
 fn main(rt: HostRuntime) -> io::Result<()> {
     let mut input = Vec::new(rt.alloc());
     let _count = rt.stdin().read_to_end(&mut input)?;
     match (input.as_slice().split_first_chunk(), make_letter(0, 1, 0)) {
-        (Some((head, steps)), Ok(blank)) => try_all(&rt, Setting::from(head), blank, steps),
+        (Some((head, steps)), Ok(blank)) => {
+            let trial = Trial {
+                rt: &rt,
+                setting: Setting::from(head),
+                steps,
+            };
+            trial.on_all(blank)
+        }
         _ => Err(io::Error::from(io::ErrorKind::InvalidInput)),
     }
 }

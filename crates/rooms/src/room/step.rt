@@ -29,6 +29,7 @@ impl Room {
         ensures works { WorksOn (move_of ask) (moment (state self.old) logs.old holds.old (C.Carrier.meaning carrier.old)) (answer_as result) (moment (state self.new) logs.new holds.new (C.Carrier.meaning carrier.new)) }
         ensures docket { returned result ≡ to_return (brought ask) (answer_as result) }
     {
+        // A step is data, listed or read from bytes: a closure in its place would have to be made by the same match.
         match ask {
             Ask::Post(seat, body) => Ok(Answer::Docket(self.post(logs, holds, seat, body)?)),
             Ask::Send(docket) => {
@@ -64,7 +65,7 @@ impl Room {
     }
 }
 
-// The step with the docket of these numbers.
+// The step with the docket of these numbers. It is no `From`: outside the crate nobody can make a docket.
 fn read_in<B: Body>(asked: Move<B>) -> Ask<B>
     ensures { move_of result ≡ asked }
 {
@@ -78,7 +79,8 @@ fn read_in<B: Body>(asked: Move<B>) -> Ask<B>
     }
 }
 
-// The answer with the numbers of its docket. Those of a docket that comes back are the asker's already.
+// The answer with the numbers of its docket. Those of a docket that comes back are the asker's already. It is no `From`:
+// outside the crate nobody can let a docket fall.
 fn write_out(answer: Result<Answer, Declined>) -> Result<Reply, Refusal>
     ensures { answer_of result ≡ answer_as answer }
 {
