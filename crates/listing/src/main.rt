@@ -85,7 +85,7 @@ fn kind_asked(rt: &HostRuntime) -> Option<Kind> {
 fn list_asked(rt: &HostRuntime) -> io::Result<()> {
     match kind_asked(rt) {
         Some(Kind::Job) => list(rt, Job::Add(0)),
-        Some(Kind::Text) => list(rt, Text::new(b"").unwrap()),
+        Some(Kind::Text) => list(rt, Text::default()),
         None => {
             eprintln!(rt;
                 "usage: listing text|job < FILE (the kind of body that the letters have)"
