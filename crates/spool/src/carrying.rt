@@ -4,7 +4,9 @@ ghost use Rattle.letters.specs.Letters.{parts_of};
 ghost use Rattle.letters.specs.Refusals.{told};
 ghost use Rattle.carriers.specs.Appending.{Appends};
 ghost use Rattle.carriers.specs.Meaning.{DrawLeaves, Drawn, Empty, Kept, PutLeaves, draw_answer, put_answer};
-ghost use Rattle.spool.specs.Rows.{marks_at, spool_answer};
+ghost use Rattle.std.specs.List.{count_by};
+ghost use Rattle.spool.specs.Masks.{marked};
+ghost use Rattle.spool.specs.Rows.{mask_of, marks_at, spool_answer};
 ghost use Rattle.spool.specs.SpoolLaws.{lawful_spool};
 ghost use Rattle.spool.specs.Spools.{AddsRow, place_of, spool_of};
 
@@ -84,6 +86,14 @@ impl<'a, B: Stored> Spool<'a, B> {
     }
 }
 
+// How many of the rows have a seat's bit.
+fn count_marked(rows: &[[u8; ROW_SIZE]], seat: u8) -> usize
+    requires { seat < 16 }
+    ensures { result ≡ count_by (λ row. marked (mask_of row) seat) rows.now }
+{
+    rows.iter().filter(|row| marks(mask_of(row), seat)).count()
+}
+
 impl<'a, B: Stored> Carrier for Spool<'a, B> {
     type Body = B;
 
@@ -99,13 +109,8 @@ impl<'a, B: Stored> Carrier for Spool<'a, B> {
         if seat >= self.seats {
             return 0;
         }
-        let mut count: u32 = 0;
-        for row in self.tape.rows(self.rows) {
-            if marks(mask_of(row), seat) {
-                count = count.saturating_add(1);
-            }
-        }
-        count
+        let count = count_marked(self.tape.rows(self.rows), seat);
+        u32::try_from(count).unwrap_or(u32::MAX)
     }
 
     fn fits(&self, poster: u8) -> bool {

@@ -1,4 +1,4 @@
-// The lent buffer of a spool, row by row. It has no invariant of its own, so that parts of it can be lent on.
+// The lent buffer of a spool, row by row. It has no invariant of its own: what holds of the rows depends on their number, which the spool keeps.
 ghost use Rattle.std.specs.Prelude.{◌≡◌, ℕ, ◌+◌, ◌*◌, ◌<◌, ◌≤◌, length};
 ghost use Rattle.std.specs.Simd.{first_chunks};
 ghost use Rattle.letters.specs.Letters.{parts_of};
@@ -29,6 +29,7 @@ pub(crate) fn mask_of(row: &[u8; ROW_SIZE]) -> u16
     u16::from_le_bytes([row[RECORD_SIZE], row[RECORD_SIZE + 1]])
 }
 
+// The functions of a row ask `row * row_size + row_size ≤ length`: which row is asked for changes from call to call, and no type ties a number to the buffer's length.
 impl<'a> Tape<'a> {
     // The first rows.
     pub(crate) fn rows(&self, count: usize) -> &[[u8; ROW_SIZE]]
