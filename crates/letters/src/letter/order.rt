@@ -42,6 +42,7 @@ impl<B: Copy> Letter<B> {
     }
 
     // Whether the letter may be shown next at a seat with this clock, in a room of n seats with the quota q.
+    // The four are no struct: each caller has them from elsewhere, and would make one only to have it taken apart here.
     pub fn is_ready(&self, n: u8, q: u16, seat: u8, clock: &Stamp) -> bool
         ensures answer { result ≡ ready n q seat clock.now self.now }
         ensures decides { Decides result (Ready n q seat (entry_at clock.now) self.now) }
