@@ -1,10 +1,11 @@
 // Making a spool, and a spool as a carrier.
-ghost use Rattle.std.specs.Prelude.{◌≡◌, ◌<◌, true, length, Ok};
+ghost use Rattle.std.specs.Prelude.{◌≡◌, ◌<◌, true, length, Ok, slice_get};
 ghost use Rattle.letters.specs.Letters.{parts_of};
 ghost use Rattle.letters.specs.Refusals.{told};
 ghost use Rattle.carriers.specs.Appending.{Appends};
 ghost use Rattle.carriers.specs.Meaning.{DrawLeaves, Drawn, Empty, Kept, PutLeaves, draw_answer, put_answer};
-ghost use Rattle.std.specs.List.{count_by};
+ghost use Rattle.std.specs.List.{count_by, enumerate_from, filter};
+ghost use Rattle.std.specs.Option.{option_map};
 ghost use Rattle.spool.specs.Masks.{marked};
 ghost use Rattle.spool.specs.Rows.{mask_of, marks_at, spool_answer};
 ghost use Rattle.spool.specs.SpoolLaws.{lawful_spool};
@@ -57,16 +58,10 @@ impl<'a, B: Stored> Spool<'a, B> {
         ensures marked { marks_at self.now.tape.bytes.now seat result ≡ true }
         ensures place { place_of B.form B.blank self.now seat result ≡ place }
     {
-        let mut seen = 0;
-        for (number, row) in self.tape.rows(self.rows).iter().enumerate() {
-            if marks(mask_of(row), seat) {
-                if seen == place {
-                    return number;
-                }
-                seen += 1;
-            }
-        }
-        unreachable()
+        let Some((row, _)) = nth_marked(self.tape.rows(self.rows), seat, place as usize) else {
+            unreachable()
+        };
+        row
     }
 
     // Takes a seat's bit out of a row, and the row out where no bit is left.
@@ -84,6 +79,17 @@ impl<'a, B: Stored> Spool<'a, B> {
             self.tape.set_mask(row, left);
         }
     }
+}
+
+// The row at a place among those with a seat's bit, with its number.
+fn nth_marked(rows: &[[u8; ROW_SIZE]], seat: u8, place: usize) -> Option<(usize, &[u8; ROW_SIZE])>
+    requires { seat < 16 }
+    ensures { option_map (λ p. (p.0, p.1.now)) result ≡ slice_get (filter (λ p. marked (mask_of p.1) seat) (enumerate_from 0 rows.now)) place }
+{
+    rows.iter()
+        .enumerate()
+        .filter(|(_, row)| marks(mask_of(row), seat))
+        .nth(place)
 }
 
 // How many of the rows have a seat's bit.

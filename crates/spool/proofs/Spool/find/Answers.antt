@@ -1,42 +1,24 @@
-use Rattle.std.proofs.Common.{◌≡◌, length, sym, ap, ◌∙◌, arith}
+use Rattle.std.proofs.Common.{◌≡◌, ◌<◌, ap, length, subst, sym, ◌∙◌}
 use Rattle.spool.specs.Decoding.{letter_of}
-use Rattle.spool.specs.Rows.{picks, marks_at, letters_at}
-use Rattle.spool.proofs.Picks.{picks_yes, picks_not}
-use Rattle.spool.proofs.Rows.{all_lent, row_marked}
+use Rattle.spool.specs.Rows.{letters_at, marks_at, picks}
+use Rattle.spool.proofs.Rows.{none_read, place_found, some_read}
 use Rattle.spool.proofs.Spool.find.Goals as goal
-use Rattle.spool.proofs.Spool.find.Goals.{then-marks+else-seen-place, else-marks}
 
-pub returns-then-seen-place-clause-row : goal.returns-then-seen-place-clause-row
-returns-then-seen-place-clause-row g c =
-    let s = c.args.self.now in
-    omega (arith, all_lent s.rows s.tape.bytes.now _ c.rows-row-items.ensures)
-
-pub returns-then-seen-place-clause-marked : goal.returns-then-seen-place-clause-marked
-returns-then-seen-place-clause-marked g c =
-    let s = c.args.self.now in
-    sym (row_marked s.rows s.tape.bytes.now _ c.rows-row-items.ensures c.args.seat c.loop-number.number _ c.marks.result c.loop-number-test.true c.mask_of.ensures c.marks.ensures)
-    ∙ c.if-marks.true
-
-pub loop-number-preserved : goal.loop-number-preserved
-loop-number-preserved g c =
+pub returns : goal.returns
+returns g c =
     let s = c.args.self.now in
     let b = s.tape.bytes.now in
-    let seat = c.args.seat in
-    let row = c.loop-number.number in
-    let test = row_marked s.rows b _ c.rows-row-items.ensures seat row _ c.marks.result c.loop-number-test.true c.mask_of.ensures c.marks.ensures in
-    elim c.if-marks.branch [
-      | then-marks+else-seen-place w ↦
-          let more = picks_yes (marks_at b seat) (letters_at (letter_of g.B.Body.form g.B.Stored.blank) b) row (sym test ∙ w.if-marks.true) in
-          (w.seen-is ∙ omega (arith, more, c.loop-number.invariant.0), omega (arith, w.seen-is, w.if-seen-place.false, c.loop-number.invariant.1))
-      | else-marks w ↦
-          let same = picks_not (marks_at b seat) (letters_at (letter_of g.B.Body.form g.B.Stored.blank) b) row (sym test ∙ w.if-marks.false) in
-          (w.seen-is ∙ c.loop-number.invariant.0 ∙ sym same, omega (arith, w.seen-is, c.loop-number.invariant.1))
-    ]
+    let q = place_found s.rows b _ c.rows.ensures (letters_at (letter_of g.B.Body.form g.B.Stored.blank) b) c.args.seat c.args.place c.requires.place in
+    let same : c.in-Some.row ≡ q.0.0 = ap (λ p. p.0) (some_read (λ p. (p.0, p.1.now)) c.nth_marked.result _ q.0 (c.nth_marked.ensures ∙ q.1) c.in-Some.is) in
+    record {
+      row = subst (λ n. n < s.rows) (sym same) q.2;
+      marked = ap (marks_at b c.args.seat) same ∙ q.3;
+      place = ap (λ n. length (picks (marks_at b c.args.seat) (letters_at (letter_of g.B.Body.form g.B.Stored.blank) b) n)) same ∙ q.4;
+    }
 
 pub unreachable-requires : goal.unreachable-requires
 unreachable-requires g c =
     let s = c.args.self.now in
     let b = s.tape.bytes.now in
-    let all : c.loop-number.number ≡ s.rows = omega (arith, all_lent s.rows b _ c.rows-row-items.ensures) in
-    let end = ap (λ n. length (picks (marks_at b c.args.seat) (letters_at (letter_of g.B.Body.form g.B.Stored.blank) b) n)) all in
-    omega (arith, c.loop-number.invariant.0, c.loop-number.invariant.1, end, c.requires.place)
+    let q = place_found s.rows b _ c.rows.ensures (letters_at (letter_of g.B.Body.form g.B.Stored.blank) b) c.args.seat c.args.place c.requires.place in
+    none_read (λ p. (p.0, p.1.now)) c.nth_marked.result q.0 (c.nth_marked.ensures ∙ q.1) c.in_default.is
