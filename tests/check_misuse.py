@@ -74,13 +74,14 @@ CRATES = [
 
 
 def crates_below(name):
-    """The crate and all that it stands on, each with its line of crates.txt."""
+    """The crate and all crates of this repository that it stands on, each with its line of crates.txt."""
     lines = (HOME / "crates.txt").read_text().splitlines()
     listed = {line.split(":")[0]: line for line in lines if line and not line.startswith("#")}
     below, todo = {}, [name]
     while todo:
         crate = todo.pop()
-        if crate not in below:
+        # What is not listed, arrayvec, is a library of the toolchain.
+        if crate in listed and crate not in below:
             below[crate] = listed[crate]
             todo += listed[crate].split(":")[1].split()
     return below
