@@ -35,7 +35,8 @@ fn drive<C: Carrier<Body = Job>>(rt: &HostRuntime, desk: &mut Desk<'_, C>) -> io
     let mut held = Vec::with_capacity(rt.alloc(), CHUNK)?;
     let mut lines = String::new(rt.alloc());
     let mut index = 0;
-    // The bound is there only because every loop has to end.
+    // The bound is there only because every loop has to end. Listing has a loop like this one; what each does with a chunk,
+    // and what it keeps by that, is its own.
     for _ in 0..u64::MAX {
         held.clear();
         lines.clear();

@@ -55,7 +55,8 @@ fn list<B: Say>(rt: &HostRuntime, body: B) -> io::Result<()> {
         poster: 0,
         body,
     };
-    // The bound is there only because every loop has to end.
+    // The bound is there only because every loop has to end. `branch` has a loop like this one; what each does with a chunk,
+    // and what it keeps by that, is its own.
     for _ in 0..u64::MAX {
         held.clear();
         lines.clear();
