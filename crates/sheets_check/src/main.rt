@@ -36,33 +36,30 @@ impl Order {
     }
 }
 
-// A type of bodies, as a block says them.
-trait Said: Body {
-    fn said(block: &[u8; BLOCK]) -> Result<Self, Refusal>;
-}
-
-impl Said for Text {
-    fn said(block: &[u8; BLOCK]) -> Result<Text, Refusal> {
-        let len = block[34] as usize;
-        if len > 60 {
-            return Err(Refusal::BadRecord);
-        }
-        Text::new(&block[36..36 + len])
+// The text that a block says.
+fn text_said(block: &[u8; BLOCK]) -> Result<Text, Refusal> {
+    let len = block[34] as usize;
+    if len > 60 {
+        return Err(Refusal::BadRecord);
     }
+    Text::new(&block[36..36 + len])
 }
 
-impl Said for Job {
-    fn said(block: &[u8; BLOCK]) -> Result<Job, Refusal> {
-        if block[36] == 1 {
-            return Ok(Job::Add(u32::from_le_bytes([block[37], block[38], block[39], block[40]])));
-        }
-        Job::strike(block[37], u16::from_le_bytes([block[38], block[39]]))
+// The job that a block says.
+fn job_said(block: &[u8; BLOCK]) -> Result<Job, Refusal> {
+    if block[36] == 1 {
+        return Ok(Job::Add(u32::from_le_bytes([block[37], block[38], block[39], block[40]])));
     }
+    Job::strike(block[37], u16::from_le_bytes([block[38], block[39]]))
 }
 
-fn letter_of<B: Said>(block: &[u8; BLOCK]) -> Result<Letter<B>, Refusal> {
+// The letter of a block, with the body that it says.
+fn letter_of<B: Body>(
+    block: &[u8; BLOCK],
+    body: Result<B, Refusal>,
+) -> Result<Letter<B>, Refusal> {
     let entries = array::from_fn(|seat| u16::from_le_bytes([block[2 * seat], block[2 * seat + 1]]));
-    Letter::new(Stamp { entries }, block[32], B::said(block)?)
+    Letter::new(Stamp { entries }, block[32], body?)
 }
 
 // Enters letters one by one; the answer is that of the last.
@@ -119,12 +116,13 @@ fn print_codes(rt: &HostRuntime, list: &JobList, log: &[Letter<Job>]) -> io::Res
 }
 
 // Keeps a block's letter for the next order, or says that there is none.
-fn keep<B: Said>(
+fn keep<B: Body>(
     rt: &HostRuntime,
     log: &mut Vec<Letter<B>>,
     block: &[u8; BLOCK],
+    body: Result<B, Refusal>,
 ) -> io::Result<()> {
-    match letter_of(block) {
+    match letter_of(block, body) {
         Ok(letter) => log.push(letter)?,
         Err(_) => println!(rt; "bad")?,
     }
@@ -142,8 +140,8 @@ fn main(rt: HostRuntime) -> io::Result<()> {
     let (blocks, _) = input.as_slice().as_chunks::<BLOCK>();
     for block in blocks {
         match (Order::of(block), block[33]) {
-            (None, 1) => keep(&rt, &mut texts, block)?,
-            (None, _) => keep(&rt, &mut jobs, block)?,
+            (None, 1) => keep(&rt, &mut texts, block, text_said(block))?,
+            (None, _) => keep(&rt, &mut jobs, block, job_said(block))?,
             (Some(order), 1) => {
                 print_answer(&rt, work(&mut timeline, texts.as_slice(), order))?;
                 print_timeline(&rt, &timeline)?;
