@@ -54,10 +54,7 @@ fn job_said(block: &[u8; BLOCK]) -> Result<Job, Refusal> {
 }
 
 // The letter of a block, with the body that it says.
-fn letter_of<B: Body>(
-    block: &[u8; BLOCK],
-    body: Result<B, Refusal>,
-) -> Result<Letter<B>, Refusal> {
+fn letter_of<B: Body>(block: &[u8; BLOCK], body: Result<B, Refusal>) -> Result<Letter<B>, Refusal> {
     let entries = array::from_fn(|seat| u16::from_le_bytes([block[2 * seat], block[2 * seat + 1]]));
     Letter::new(Stamp { entries }, block[32], body?)
 }
