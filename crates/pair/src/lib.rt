@@ -16,6 +16,9 @@ use letters::refusal::Refusal;
 pub struct Pair<C: Carrier, D: Carrier<Body = C::Body>> {
     first: C,
     second: D,
+    // Of each of the two; it never changes.
+    seats: u8,
+    ghost seated: { seats ≡ (C.Carrier.meaning first).seats },
     ghost level: { (C.Carrier.meaning first).seats ≡ (D.Carrier.meaning second).seats },
 }
 
@@ -36,7 +39,11 @@ impl<C: Carrier, D: Carrier<Body = C::Body>> Pair<C, D> {
         requires { pair_answer (C.Carrier.meaning first).seats (D.Carrier.meaning second).seats ≡ Ok tt }
         ensures { (result.first ≡ first) × (result.second ≡ second) }
     {
-        Pair { first, second }
+        Pair {
+            seats: first.seats(),
+            first,
+            second,
+        }
     }
 }
 
@@ -48,7 +55,7 @@ impl<C: Carrier, D: Carrier<Body = C::Body>> Carrier for Pair<C, D> {
     ghost lawful = { λ p. lawful_both (C.Carrier.meaning p.first) (D.Carrier.meaning p.second) (C.Carrier.lawful p.first) (D.Carrier.lawful p.second) };
 
     fn seats(&self) -> u8 {
-        self.first.seats()
+        self.seats
     }
 
     fn waits(&self, seat: u8) -> u32 {
@@ -62,7 +69,7 @@ impl<C: Carrier, D: Carrier<Body = C::Body>> Carrier for Pair<C, D> {
 
     fn put(&mut self, letter: &Letter<C::Body>) -> Result<(), Refusal> {
         let poster = letter.poster();
-        if poster >= self.first.seats() {
+        if poster >= self.seats {
             return Err(Refusal::UnknownSeat);
         }
         if !self.first.fits(poster) || !self.second.fits(poster) {

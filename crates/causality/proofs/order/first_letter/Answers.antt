@@ -1,7 +1,7 @@
 use Rattle.std.proofs.Common.{ap, ◌∙◌}
 use Rattle.letters.specs.Letters.{parts}
 use Rattle.causality.proofs.Sample.{arrives}
-use Rattle.causality.proofs.laws.first_letter.Goals as goal
+use Rattle.causality.proofs.order.first_letter.Goals as goal
 
 pub returns : goal.returns
 returns g c =

@@ -1,6 +1,6 @@
 use Rattle.causality.proofs.Theorems.{causal_order, order_for_sheets, stamps_mean_led_to}
 use Rattle.causality.proofs.Telling.{tells_led_to}
-use Rattle.causality.proofs.laws.led_to.Goals as goal
+use Rattle.causality.proofs.order.led_to.Goals as goal
 
 pub returns : goal.returns
 returns g c = record {

@@ -1,42 +1,18 @@
-// The theorems, each on the contract of a function and for letters of any body.
-ghost use Rattle.std.specs.Prelude.{◌≡◌, ◌*◌};
+// Causal order, what led to what, and the first letter of a run.
+ghost use Rattle.std.specs.Prelude.{◌≡◌, true};
 ghost use Rattle.letters.specs.Letters.{parts_of};
 ghost use Rattle.causality.specs.Sample.{Arrives, first_parts, stamp_of_first};
-ghost use Rattle.causality.specs.Theorems.{CausalOrder, CompleteDelivery, EnoughPlaces, OrderForSheets, StampsMeanLedTo, TellsLedTo, stamps_say};
+ghost use Rattle.causality.specs.Theorems.{CausalOrder, OrderForSheets, StampsMeanLedTo, TellsLedTo, stamps_say};
 
 use letters::letter::Letter;
 use letters::stamp::Stamp;
 
-// Every log is in causal order, and every letter is the very one that was posted.
-pub fn causal_order_holds<B: Copy>() -> u8
-    ensures { CausalOrder B }
+// Whether every log is in causal order, and every letter is the very one that was posted. They always are.
+pub fn causal_order_holds<B: Copy>() -> bool
+    ensures answer { result ≡ true }
+    ensures order { CausalOrder B }
 {
-    0
-}
-
-// Where nothing is on its way to a seat and nothing held there is ready, its log holds exactly the posted letters.
-pub fn complete_delivery_holds<B: Copy>() -> u8
-    ensures { CompleteDelivery B }
-{
-    0
-}
-
-// Any two logs of a room, and any beginnings of them, are fit to be drawn up on sheets that agree.
-pub fn order_for_sheets_holds<B: Copy>() -> u8
-    ensures { OrderForSheets B }
-{
-    0
-}
-
-// How many places a seat's hold, and its part of the log table, has in a room of so many seats with this quota. There is
-// always one for a posted letter, so where nothing is on its way to a seat and nothing held there is ready, its log holds
-// exactly the posted letters.
-pub fn places<B: Copy>(seats: u8, quota: u16) -> u32
-    ensures answer { result ≡ seats * quota }
-    ensures enough { EnoughPlaces B seats quota }
-    ensures delivery { CompleteDelivery B }
-{
-    seats as u32 * quota as u32
+    true
 }
 
 // Whether m led to k (happened before it), told from their stamps alone: right wherever both were posted in one room. Every

@@ -1,5 +1,5 @@
 use Rattle.causality.proofs.Theorems.{complete_delivery, enough_places}
-use Rattle.causality.proofs.laws.places.Goals as goal
+use Rattle.causality.proofs.completeness.places.Goals as goal
 
 pub returns-clause-enough : goal.returns-clause-enough
 returns-clause-enough g c = enough_places c.args.seats c.args.quota
