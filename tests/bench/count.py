@@ -4,8 +4,12 @@
 Needs valgrind and rustc. Run it at the top of the repository: python3 tests/bench/count.py
 It builds crates/bench by `rt run` and plain.rs by rustc, checks that both print the same, and runs both under callgrind.
 A part's count is that of a run which stops after the part, less that of a run which stops before it.
+
+The C library moves long runs by one instruction that repeats (`rep movsb`), which callgrind counts once for each byte.
+Both programs are run with a setting of that library which has it move by whole vectors at every length.
 """
 
+import os
 import pathlib
 import re
 import subprocess
@@ -14,6 +18,7 @@ import tempfile
 
 HERE = pathlib.Path(__file__).resolve().parent
 CRATE = HERE.parent.parent / "crates" / "bench"
+MOVES = {**os.environ, "GLIBC_TUNABLES": "glibc.cpu.x86_rep_movsb_threshold=1000000000"}
 RUSTC = ["rustc", "-C", "opt-level=3", "--edition", "2024", "-A", "dead_code"]
 
 MAKES = {"l": "lines", "s": "spool", "p": "pair"}
@@ -37,7 +42,7 @@ def run(program, setting):
 def count(program, setting, folder):
     """How many instructions a run takes."""
     command = ["valgrind", "--tool=callgrind", f"--callgrind-out-file={folder}/out", program]
-    said = subprocess.run(command, input=setting, capture_output=True, text=True, check=True).stderr
+    said = subprocess.run(command, input=setting, env=MOVES, capture_output=True, text=True, check=True).stderr
     return int(re.search(r"Collected : (\d+)", said).group(1))
 
 

@@ -27,6 +27,7 @@ use spool::stored::Stored;
 use std::alloc::AllocError;
 use std::io;
 use std::io::Read;
+use std::mem::size_of;
 
 const SEATS: usize = 16;
 
@@ -395,12 +396,29 @@ fn run_texts(rt: &HostRuntime, make: Make, parts: u8) -> Result<(), Stop> {
     Ok(())
 }
 
-// Three letters: l, s or p for lines, a spool or a pair; j or t for jobs or texts; the number of parts, 0 to 5.
+// How many bytes each thing has that a room works with.
+fn print_sizes(rt: &HostRuntime) -> io::Result<()> {
+    println!(rt; "draft {}", size_of::<Draft>())?;
+    println!(rt; "room {}", size_of::<Room>())?;
+    println!(rt; "lines {}", size_of::<Lines<Job>>())?;
+    println!(rt; "spool {}", size_of::<Spool<Job>>())?;
+    println!(rt;
+        "pair of both {}",
+        size_of::<Pair<Lines<Job>, Spool<Job>>>()
+    )?;
+    println!(rt; "job list {}", size_of::<JobList>())?;
+    println!(rt; "timeline {}", size_of::<Timeline>())?;
+    println!(rt; "letter with a job {}", size_of::<Letter<Job>>())?;
+    println!(rt; "letter with a text {}", size_of::<Letter<Text>>())
+}
+
+// Three letters: l, s or p for lines, a spool or a pair; j or t for jobs or texts; the number of parts, 0 to 5. With none of
+// them it prints the sizes.
 fn main(rt: HostRuntime) -> io::Result<()> {
     let mut input = Vec::new(rt.alloc());
     rt.stdin().read_to_end(&mut input)?;
     let &[make, load, parts, ..] = input.as_slice() else {
-        return println!(rt; "no setting");
+        return print_sizes(&rt);
     };
     let make = match make {
         b'l' => Make::Lines,
