@@ -2,7 +2,7 @@
 """Counts the instructions of the parts of crates/bench, and of the same work in plain Rust, and prints them side by side.
 
 Needs valgrind and rustc. Run it at the top of the repository: python3 tests/bench/count.py
-It builds crates/bench by `rt run` and plain.rs by rustc, checks that both print the same, and runs both under callgrind.
+It builds crates/bench by `rt run` (through LLVM) and plain.rs by rustc, checks that both print the same, and runs both under callgrind.
 A part's count is that of a run which stops after the part, less that of a run which stops before it.
 
 The C library moves long runs by one instruction that repeats (`rep movsb`), which callgrind counts once for each byte.
@@ -28,7 +28,7 @@ PARTS = ["open", "post and send", "take", "show", "draw up"]
 
 def build(folder):
     """The two programs."""
-    subprocess.run(["rt", "run"], cwd=CRATE, stdin=subprocess.DEVNULL, stdout=subprocess.DEVNULL, check=True)
+    subprocess.run(["rt", "run", "--backend", "llvm"], cwd=CRATE, stdin=subprocess.DEVNULL, stdout=subprocess.DEVNULL, check=True)
     plain = folder / "plain"
     subprocess.run([*RUSTC, "-o", plain, HERE / "plain.rs"], check=True)
     return CRATE / "out" / "bench", plain
