@@ -1,6 +1,5 @@
 -- A search for the first element that passes a test.
-use Rattle.std.proofs.Common.{◌≡◌, ℕ, ◌+◌, ◌<◌, ◌≤◌, Bool, true, false, cond, List, [], ◌∷◌, length, get_or, drop, Some, None, Option, refl, sym, ap, ◌∙◌, ⊎_elim, arith}
-use Rattle.std.specs.List.{enumerate_from, find}
+use Rattle.std.proofs.Common.{◌≡◌, ℕ, ◌+◌, ◌<◌, ◌≤◌, Bool, true, false, cond, List, [], ◌∷◌, length, get_or, drop, Some, None, Option, sym, ap, ◌∙◌, ⊎_elim, arith}
 use Rattle.std.proofs.lemmas.List.{at_drop_more}
 use Rattle.std.proofs.lemmas.Bool.{cases_Bool, cond-true, cond-false}
 use Rattle.seats.specs.Outcomes.{first}
@@ -15,11 +14,6 @@ module _ {X : Type 0} (f : X → Bool) (xs : List X) (i : ℕ) (r : Option (ℕ 
 
   pub first_found : (x : X) → i < length xs → x ≡ get_or xs i x → f x ≡ true → Some (i, x) ≡ r
   first_found x lt at passes = sym (ap (λ b. cond b (Some (i, x)) (first f (i + 1) (drop (i + 1) xs))) passes) ∙ seen x lt at
-
--- the first element that passes, found among the elements with their places
-pub first-find : {X : Type 0} (f : X → Bool) (i : ℕ) (xs : List X) → first f i xs ≡ find (λ (e : ℕ × X). f e.1) (enumerate_from i xs)
-first-find f i [] = refl
-first-find {X} f i (x ∷ xs) = ap (λ (o : Option (ℕ × X)). cond (f x) (Some (i, x)) o) (first-find f (i + 1) xs)
 
 -- what is known of an element that is found
 pub record Found {X : Type 0} (f : X → Bool) (i : ℕ) (xs : List X) (k : ℕ) (x : X) : Type 0 where

@@ -16,11 +16,13 @@ pub fn find_named<B: Copy>(
 ) -> Option<(usize, Letter<B>)>
     ensures { result ≡ first (is_called poster number) 0 letters.now }
 {
-    letters
-        .iter()
-        .copied()
-        .enumerate()
-        .find(|(_, letter)| is_named(letter, poster, number))
+    // No `copied` before the search: it would copy each letter that is looked at.
+    for (at, letter) in letters.iter().enumerate() {
+        if is_named(letter, poster, number) {
+            return Some((at, *letter));
+        }
+    }
+    None
 }
 
 // Whether the letter has this name.
@@ -63,6 +65,9 @@ fn is_due<B: Copy>(letter: &Letter<B>, count: u8, quota: u16, seat: u8, clock: &
 {
     let poster = letter.poster();
     let number = letter.number();
-    let shown = clock.entry(poster);
-    poster < count && poster != seat && number <= quota && number > shown && number - shown == 1
+    // A letter's number is not 0.
+    poster < count
+        && poster != seat
+        && number <= quota
+        && number - 1 == clock.entries[poster as usize]
 }

