@@ -15,12 +15,15 @@ from pathlib import Path
 
 sys.dont_write_bytecode = True
 sys.path.insert(0, str(Path(__file__).resolve().parent))
-from branch_model import PLACES, QUOTA, SEATS, Branch
+from branch_model import PLACES, QUOTA, SEATS, STEP, Branch
 from run_program import Program
 
 SEED = 20240923
 STREAMS = 5400
 PIECES = 60  # streams that are written piece by piece
+LONGER = 60  # streams of hundreds of steps
+LONGEST = 70_000  # steps of one stream
+ENDLESS = 6  # streams that go on and on after what is no step
 WORKERS = 2
 
 # The example of docs/PROGRAMS.md.
@@ -126,7 +129,7 @@ def ending(rng):
     if kind == 0:
         return post(rng)[: rng.randrange(1, 8)]
     if kind == 1:
-        return bytes([rng.choice([0, 5, 6, 255])]) + any_bytes(rng, 7) + post(rng) + show(rng)
+        return other_call(rng) + post(rng) + show(rng)
     return b""
 
 
@@ -144,6 +147,22 @@ def stream(rng):
     return b"".join(rng.choice(sort)(rng) for _ in range(rng.randrange(length + 1))) + ending(rng)
 
 
+def other_call(rng):
+    return bytes([rng.choice([0, 5, 6, 255])]) + any_bytes(rng, 7)
+
+
+def longer_stream(rng):
+    """Hundreds of steps, and in half of the streams one among them that cannot be read."""
+    steps = [rng.choice(rng.choice([MIXED, CROWDED, THROUGH]))(rng) for _ in range(rng.randrange(200, 700))]
+    if rng.randrange(2) == 0:
+        steps[rng.randrange(len(steps))] = other_call(rng)
+    return b"".join(steps)
+
+
+def longest_stream(rng):
+    return b"".join(rng.choice(THROUGH)(rng) for _ in range(LONGEST))
+
+
 def whole(program, data):
     status, out, _ = program.run([], data)
     return status, out
@@ -151,15 +170,27 @@ def whole(program, data):
 
 def compare(program, index, data, sizes):
     """Whether the program prints what the model says, and what came."""
+    return held_to_the_model(index, data, *(program.run_in_pieces([], data, sizes) if sizes else whole(program, data)))
+
+
+def compare_end(program, index, data):
+    """The same, where what is no step and 16 MiB stand behind the stream: of these the program reads no more."""
+    status, got, read_on = program.run_until_end([], data + bytes(16 << 20))
+    good, counts = held_to_the_model(index, data + bytes(STEP), status, got)
+    if read_on:
+        print(f"stream {index}: it read 16 MiB on after what is no step")
+    return good and not read_on, counts
+
+
+def held_to_the_model(index, data, status, got):
     model = Branch()
     want = "".join(line + "\n" for line in model.run(data)).encode("ascii")
-    status, got = program.run_in_pieces([], data, sizes) if sizes else whole(program, data)
     if status == 0 and got == want:
         return True, model.counts
     lines, expected = got.split(b"\n"), want.split(b"\n")
     place = next((i for i, (a, b) in enumerate(zip(lines, expected)) if a != b), min(len(lines), len(expected)))
     print(f"stream {index}, status {status}, line {place}: got {lines[place:place + 1]}, expected {expected[place:place + 1]}")
-    print(f"  {data.hex()}")
+    print(f"  {data[:2000].hex()}")
     return False, model.counts
 
 
@@ -172,12 +203,15 @@ def main():
     streams = [(example(), None), (b"", None)]
     streams += [(stream(rng), None) for _ in range(STREAMS)]
     streams += [(stream(rng), [rng.choice([1, 3, 7, 8, 9, 20, 64])]) for _ in range(PIECES)]
+    streams += [(longer_stream(rng), None) for _ in range(LONGER)] + [(longest_stream(rng), None)]
+    endless = [b"".join(rng.choice(MIXED)(rng) for _ in range(rng.randrange(100))) for _ in range(ENDLESS)]
     if Branch().run(example()) != EXAMPLE_LINES.split("\n"):
         print("the model does not print the example of docs/PROGRAMS.md")
         print("0 passed, 1 failed")
         return 1
     with ThreadPoolExecutor(WORKERS) as workers:
         done = list(workers.map(lambda case: compare(program, case[0], *case[1]), enumerate(streams)))
+        done += workers.map(lambda case: compare_end(program, *case), enumerate(endless, len(streams)))
     counts = {}
     for _, came in done:
         for what, often in came.items():

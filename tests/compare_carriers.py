@@ -18,6 +18,16 @@ STEPS = 300
 
 CAP = 2**32 - 1
 
+# Settings that are always run: carriers with as many seats and letters as there can be, and sizes whose low bits alone would do.
+EDGES = [
+    (16, 16, 64, 4, 1024),
+    (1, 1, 64, 64, 98),
+    (1, 1, 64, 65, 98),
+    (1, 1, 64, 2**16 + 1, 98),
+    (1, 1, 64, 2**24 + 1, 98),
+    (1, 1, 64, 2**31 + 1, 98),
+]
+
 
 class Lines:
     """A queue of c places for each seat."""
@@ -229,7 +239,7 @@ def random_step(rng, seats):
         number = (65536 - seat) % 65536  # the letter's own number would be 0
     value = rng.randrange(2**32)
     if kind == 2:
-        value = rng.choice([0, 0, 0, 1, 1, 2, 3, rng.randrange(12), CAP - 1, CAP])
+        value = rng.choice([0, 0, 0, 1, 1, 2, 3, rng.randrange(12), 2 ** rng.randrange(4, 32), CAP - 1, CAP])
     return kind, seat & 255, number, value
 
 
@@ -246,8 +256,8 @@ def main():
         return 2
     rng = random.Random(SEED)
     passed = failed = operations = 0
-    for index in range(RUNS):
-        setting = random_setting(rng)
+    for index in range(len(EDGES) + RUNS):
+        setting = EDGES[index] if index < len(EDGES) else random_setting(rng)
         steps = [random_step(rng, setting[0]) for _ in range(STEPS)]
         want, taken = expected(setting, steps)
         got = run(sys.argv[1], setting, steps)
@@ -258,7 +268,7 @@ def main():
         failed += 1
         place = next((i for i, (a, b) in enumerate(zip(got, want)) if a != b), min(len(got), len(want)))
         print(f"run {index} {setting}: line {place}: got {got[place:place + 1]}, expected {want[place:place + 1]}")
-    print(f"{operations} operations in {RUNS} runs, seed {SEED}")
+    print(f"{operations} operations in {passed + failed} runs, seed {SEED}")
     print(f"{passed} passed, {failed} failed")
     return 1 if failed else 0
 

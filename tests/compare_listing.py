@@ -28,8 +28,8 @@ from run_program import Program
 SEED = 20
 WORKERS = 2
 MOST_REPORTS = 10
-MOST_GROWTH = 8 * 1024  # KiB of memory
-MANY, FEW = 100_000, 1_000  # letters
+MOST_GROWTH = 384  # KiB of memory
+MANY, FEW = 100_000, 1  # letters
 KINDS = ("text", "job")
 
 # Comparing: each comparison answers None, or what went wrong

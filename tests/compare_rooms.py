@@ -23,6 +23,7 @@ from sheet_model import JobList
 
 SEED = 77
 CASES = 5_000
+CROWDED = 10  # of these the first: rooms whose spool is filled, or whose quota is spent
 ROOM = 7  # the number of the program's room
 QUEUES = 256  # letters
 BYTES = 6272
@@ -99,8 +100,9 @@ def sheet_line(room, seat):
 
 def any_step(rng, room):
     """A step of any values."""
-    return (rng.randrange(1, 8), rng.choice([rng.randrange(room.count), 16, 255]), rng.randrange(4),
-            rng.choice([ROOM, 0, 1, 2**32 - 1]), rng.choice([0, 1, 15, 16]))
+    return (rng.choice([*range(1, 8), 0, 8, 255]), rng.choice([rng.randrange(room.count), 16, 255]),
+            rng.choice([0, 1, 2, 3, 256, 257, 65535]), rng.choice([ROOM, 0, 1, 256, 2**16, 2**24, 2**32 - 1]),
+            rng.choice([0, 1, 15, 16]))
 
 
 def likely_step(rng, room):
@@ -122,20 +124,41 @@ def likely_step(rng, room):
     return (ADD, seat, 0, rng.randrange(2**32), 0)
 
 
+def crowding_step(rng, room):
+    """Posts of seat 0, each of which is sent, and now and then a take of seat 1."""
+    box = room.seats[0]
+    if box.docket == "out":
+        return (SEND, 0, box.clock[0], ROOM, 0)
+    if rng.random() < 0.03:
+        return (TAKE, 1, 0, 0, 0)
+    return (ADD, 0, 0, rng.randrange(2**32), 0)
+
+
 def make_case(number):
     """The bytes for the program, and the lines that it must print."""
     rng = random.Random(f"{SEED} {number}")
+    if number < CROWDED:
+        return steps_made(rng, *rng.choice([((2, 128, 128), 160), ((1, 256, 1), 520)]), crowding_step)
     seats = rng.choice([1, 2, 3, 3, 4, 5, 8, 16, 16, rng.randrange(1, 17), rng.randrange(0, 19)])
     quota = rng.choice([1, 2, 3, 8, 15, 16, 17, rng.randrange(0, 300)])
     size = rng.choice([1, 2, 4, 16, rng.randrange(0, 20)])
+    return steps_made(rng, (seats, quota, size), rng.randrange(10, 90), some_step)
+
+
+def some_step(rng, room):
+    return any_step(rng, room) if rng.random() < 0.1 else likely_step(rng, room)
+
+
+def steps_made(rng, setting, count, next_step):
+    seats, quota, size = setting
     data = bytearray(struct.pack("<BHB", seats, quota, size))
     no = refusal_to_make(seats, quota, size)
     if no:
         return bytes(data), [f"refused {no}"]
     room = model.Room(seats, quota, OnPair(seats, size))
     lines = []
-    for _ in range(rng.randrange(10, 90)):
-        step = any_step(rng, room) if rng.random() < 0.1 else likely_step(rng, room)
+    for _ in range(count):
+        step = next_step(rng, room)
         data += struct.pack("<BBHIBBBB", *step, 0, 0, 0)
         lines.append(reply(room, step))
     for seat in range(seats):

@@ -20,7 +20,7 @@ from pathlib import Path
 sys.dont_write_bytecode = True
 sys.path.insert(0, str(Path(__file__).resolve().parent))
 import random_letters as some
-from record_model import KIND_CODES, POSTER, RECORD_SIZE, SEATS, Letter, Strike, record_of
+from record_model import BODY, KIND_CODES, LENGTH, POSTER, RECORD_SIZE, SEATS, Letter, Strike, record_of
 from sheet_model import JobList, Timeline
 
 SEED = 40
@@ -50,6 +50,21 @@ class Case:
         answer = (sheet.draw_up if self.order == DRAW_UP else sheet.enter_all)(letters)
         told = b"done" if answer is None else b"refused %d" % answer
         return told, [*sheet.lines()], [*sheet.more_lines(letters)]
+
+
+@dataclass
+class Bad:
+    """A block of which no letter can be made."""
+
+    kind: str
+    record: bytes
+    like_last = False
+
+    def blocks(self):
+        return self.record
+
+    def expected(self, sheet):
+        return b"bad", [], []
 
 
 # Random logs: lists of pairs of a letter and its record
@@ -118,6 +133,21 @@ def loose_log(rng, kind, size):
     return [with_record(loose_letter(rng, kind)) for _ in range(size)]
 
 
+def bad_record(rng, kind):
+    record = some.record(rng, kind)
+    damage = rng.randrange(3)
+    if damage == 0:
+        record[POSTER] = rng.choice((16, 17, 128, 253))
+    elif damage == 1:
+        some.zero_own_number(rng, record)
+    elif kind == "text":
+        record[LENGTH] = rng.choice((1, 60, 60, 61, 255))
+        record[BODY] = rng.choice((31, 127))
+    else:
+        record[BODY : BODY + 4] = rng.choice((b"\2\x10\1\0", b"\2\xff\1\0", b"\2\0\0\0", b"\2\x0f\0\0"))
+    return bytes(record)
+
+
 # Cases
 
 
@@ -132,9 +162,11 @@ def cases_of_kind(rng, kind):
         yield from two_orders(rng, kind, rng.choice((0, 1, 2, 3, 4, 5, 6, 8, 12)))
     for _ in range(LOOSE_LOGS):
         order = DRAW_UP if rng.random() < 0.5 else ENTER
+        if rng.random() < 0.2:
+            yield Bad(kind, bad_record(rng, kind))
         yield Case(kind, order, loose_log(rng, kind, rng.randint(0, 30)))
     places = MODELS[kind].places
-    for size in (19, 20, 21, 40, 41, places - 1, places, places + 1, places + 2):
+    for size in (19, 20, 21, 40, 41, places - 1, places, places + 1, places + 2, 300):
         for _ in range(3):
             yield from two_orders(rng, kind, size)
             yield Case(kind, ENTER, loose_log(rng, kind, rng.randint(0, 3)))
