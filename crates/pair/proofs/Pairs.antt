@@ -17,7 +17,7 @@ module _ {L : Type 0} where
   pub put_joined : (m n m' n' : Meaning L) (p : ℕ) (x : L) (r₁ r₂ : Result (Unit {0}) Refusal) →
       m.seats ≡ n.seats → p < m.seats → m.fits p ≡ true → n.fits p ≡ true →
       told (λ u. u) r₁ ≡ put_answer m p → PutLeaves r₁ m p x m' → told (λ u. u) r₂ ≡ put_answer n p → PutLeaves r₂ n p x n' →
-      (told (λ u. u) r₂ ≡ put_answer (both m n) p) × PutLeaves r₂ (both m n) p x (both m' n')
+      (told (λ u. u) r₂ ≡ put_answer (both m n) p) × PutLeaves r₂ (both m n) p x (both m' n') × PutLeaves r₂ m p x m'
   put_joined m n m' n' p x r₁ r₂ s h f₁ f₂ a₁ l₁ a₂ l₂ =
       let h₂ : p < n.seats = omega arith in
       let yes₂ = put_ok n p h₂ f₂ in
@@ -35,6 +35,7 @@ module _ {L : Type 0} where
         a₂ ∙ yes₂ ∙ sym (ap (λ w. put_answer w p) before ∙ put_ok (joined m n) p h (and_from _ _ f₁ f₂)),
         accepted_put (both m n) (both m' n') p x r₂ (a₂ ∙ yes₂)
             (subst (λ w. PutOn w p x (both m' n')) (sym before) (subst (λ w. PutOn (joined m n) p x w) (sym after) d)),
+        accepted_put m m' p x r₂ (a₂ ∙ yes₂) d₁,
       )
 
   pub waits_joined : (m n : Meaning L) (k a b : ℕ) → m.seats ≡ n.seats → a ≡ waits_at m k → b ≡ waits_at n k → min (a + b) (2 ^ 32 - 1) ≡ waits_at (both m n) k

@@ -3,6 +3,7 @@
 
 ghost use Rattle.std.specs.Prelude.{◌≡◌, Ok};
 ghost use Rattle.letters.specs.Refusals.{told};
+ghost use Rattle.carriers.specs.Meaning.{PutLeaves, put_answer};
 ghost use Rattle.pair.specs.PairLaws.{lawful_both};
 ghost use Rattle.pair.specs.Pairs.{both, pair_answer};
 
@@ -67,7 +68,12 @@ impl<C: Carrier, D: Carrier<Body = C::Body>> Carrier for Pair<C, D> {
         self.first.fits(poster) & self.second.fits(poster)
     }
 
-    fn put(&mut self, letter: &Letter<C::Body>) -> Result<(), Refusal> {
+    fn put(&mut self, letter: &Letter<C::Body>) -> Result<(), Refusal>
+        ensures answer { told (λ u. u) result ≡ put_answer (both (C.Carrier.meaning self.old.first) (D.Carrier.meaning self.old.second)) letter.now.poster }
+        ensures leaves { PutLeaves result (both (C.Carrier.meaning self.old.first) (D.Carrier.meaning self.old.second)) letter.now.poster letter.now (both (C.Carrier.meaning self.new.first) (D.Carrier.meaning self.new.second)) }
+        ensures first { PutLeaves result (C.Carrier.meaning self.old.first) letter.now.poster letter.now (C.Carrier.meaning self.new.first) }
+        ensures second { PutLeaves result (D.Carrier.meaning self.old.second) letter.now.poster letter.now (D.Carrier.meaning self.new.second) }
+    {
         let poster = letter.poster();
         if poster >= self.seats {
             return Err(Refusal::UnknownSeat);

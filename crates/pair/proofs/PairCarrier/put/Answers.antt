@@ -15,4 +15,4 @@ returns g c =
     let fits₁ : m.fits c.args.letter.now.poster ≡ true = ap m.fits (sym is) ∙ sym c.fits.ensures ∙ c.if-not-fits.false in
     let fits₂ : n.fits c.args.letter.now.poster ≡ true = ap n.fits (sym is) ∙ sym c.fits-else-not-fits.ensures ∙ c.if-not-fits-2.false in
     let both = put_joined m n _ _ c.args.letter.now.poster c.args.letter.now _ _ level (omega arith) fits₁ fits₂ one.answer one.leaves two.answer two.leaves in
-    record { answer = both.0; leaves = both.1 }
+    record { answer = both.0; leaves = both.1; first = both.2; second = two.leaves }
