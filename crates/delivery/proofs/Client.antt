@@ -12,7 +12,7 @@ use Rattle.letters.specs.declared.parts.Parts.{Parts}
 use Rattle.letters.specs.Letters.{parts_of}
 use Rattle.letters.specs.Refusals.{Reason, plain, told}
 use Rattle.carriers.specs.Putting.{Gains}
-use Rattle.carriers.specs.Meaning.{DrawLeaves, Empty, Lawful, Meaning, PutOn, draw_answer, put_answer}
+use Rattle.carriers.specs.Meaning.{DrawLeaves, Empty, Kept, Lawful, Meaning, PutOn, draw_answer, put_answer}
 use Rattle.carriers.proofs.Decisions.{draw_accepted, draw_no_place, draw_no_seat, draw_ok, draw_refused, put_ok}
 use Rattle.delivery.specs.Passing.{Passes, first_answer, parts_by}
 
@@ -75,3 +75,7 @@ module _ {B : Type 0} (m : Meaning (Letter B)) (law : Lawful m) (none : Empty m)
       let d : first_answer m.seats x.poster seat ≡ Err (plain 8) = rw (le-ltb x.poster m.seats out) in
       subst Ends (sym d) (p.0, p.2))
       (cases_lt x.poster m.seats)
+
+-- a yes asks nothing of memory
+pub kept_by_yes : {X E : Type 0} (before after : X) (r : Result (Unit {0}) E) → Ok tt ≡ r → Kept r before after
+kept_by_yes {X} {E} before after r e = subst (λ (a : Result (Unit {0}) E). Kept a before after) e tt

@@ -4,7 +4,8 @@
 ghost use Rattle.std.specs.Prelude.{◌≡◌, length};
 ghost use Rattle.letters.specs.Letters.{parts_of};
 ghost use Rattle.letters.specs.Refusals.{told};
-ghost use Rattle.carriers.specs.Meaning.{put_answer};
+ghost use Rattle.carriers.specs.Lines.{lines_answer};
+ghost use Rattle.carriers.specs.Meaning.{Kept, put_answer};
 ghost use Rattle.delivery.specs.Passing.{Passes, delivery_answer, parts_by};
 
 use carriers::carrier::Carrier;
@@ -38,6 +39,7 @@ pub fn over_lines<B: Body>(
 ) -> Result<(), Refusal>
     ensures answer { told (λ u. u) result ≡ delivery_answer seats size (length places.old) letter.now.poster seat }
     ensures filled { parts.new ≡ parts_by (delivery_answer seats size (length places.old) letter.now.poster seat) (parts_of letter.now) parts.old }
+    ensures kept { Kept (lines_answer seats size (length places.old)) places.old places.new }
 {
     Lines::check(places, seats, size)?;
     let mut lines = Lines::new(places, seats, size);

@@ -3,7 +3,7 @@ use Rattle.letters.specs.Letters.{parts_of}
 use Rattle.carriers.specs.Lines.{lines_of}
 use Rattle.carriers.specs.LineLaws.{lawful_lines}
 use Rattle.delivery.specs.Passing.{and_then, delivery_answer, first_answer, parts_by}
-use Rattle.delivery.proofs.Client.{first_drawn}
+use Rattle.delivery.proofs.Client.{first_drawn, kept_by_yes}
 use Rattle.delivery.proofs.over_lines.Goals as goal
 
 pub returns : goal.returns
@@ -19,4 +19,5 @@ returns g c =
     record {
       answer = ends.0 ∙ same;
       filled = ends.1 ∙ ap (λ d. parts_by d (parts_of x) lent) same;
+      kept = kept_by_yes _ _ _ c.in_ok-check.ensures;
     }
