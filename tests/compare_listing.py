@@ -29,7 +29,7 @@ SEED = 20
 WORKERS = 2
 MOST_REPORTS = 10
 MOST_GROWTH = 384  # KiB of memory
-MANY, FEW = 100_000, 1  # letters
+MANY, FEW = 130_000, 1  # letters
 KINDS = ("text", "job")
 
 # Comparing: each comparison answers None, or what went wrong
