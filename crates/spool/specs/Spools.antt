@@ -6,7 +6,8 @@ use Rattle.carriers.specs.Meaning.{Meaning, waits_at}
 use Rattle.spool.specs.declared.Spool.{Spool}
 use Rattle.spool.specs.Decoding.{letter_of}
 use Rattle.spool.specs.Masks.{all_but}
-use Rattle.spool.specs.Rows.{letters_at, mask_of, marks_at, picks, row_at, row_fits}
+use Rattle.records.specs.Records.{record_of}
+use Rattle.spool.specs.Rows.{letters_at, mask_of, marks_at, picks, record_part, row_at, row_fits}
 
 -- a seat's list is the rows with its bit, in row order; a letter fits where one more whole row has place
 abbrev pub spool_meaning : {L : Type 0} → (List ℕ → L) → ℕ → ℕ → List ℕ → Meaning L
@@ -32,9 +33,12 @@ StandsAt form blank s seat place None = waits_at (spool_of form blank s) seat �
 abbrev pub rows_after : ℕ → ℕ → ℕ → ℕ
 rows_after seats poster rows = cond (count_ones (all_but seats poster) == 0) rows (rows + 1)
 
--- what an accepted put does to the rows: a new one has the full mask less the poster's bit
-abbrev pub AddsRow : {B E : Type 0} → Result (Unit {0}) E → Spool B → ℕ → Spool B → Type 0
-AddsRow (Ok _) s poster after =
-    (after.rows ≡ rows_after s.seats poster s.rows)
-    × ((r : ℕ) → s.rows ≤ r → r < after.rows → mask_of (row_at after.tape.bytes.now r) ≡ all_but s.seats poster)
-AddsRow (Err _) s poster after = Unit {0}
+-- what an accepted put does to the rows: those that were there stay, and a new one is the letter's record with the full mask
+-- less the poster's bit
+abbrev pub AddsRow : {B E : Type 0} → Form B → Result (Unit {0}) E → Spool B → Letter B → Spool B → Type 0
+AddsRow form (Ok _) s m after =
+    (after.rows ≡ rows_after s.seats m.poster s.rows)
+    × ((r : ℕ) → r < s.rows → row_at after.tape.bytes.now r ≡ row_at s.tape.bytes.now r)
+    × ((r : ℕ) → s.rows ≤ r → r < after.rows
+    → (record_part (row_at after.tape.bytes.now r) ≡ record_of form m) × (mask_of (row_at after.tape.bytes.now r) ≡ all_but s.seats m.poster))
+AddsRow form (Err _) s m after = Unit {0}

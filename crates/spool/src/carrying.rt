@@ -67,7 +67,8 @@ impl<'a, B: Stored> Spool<'a, B> {
         requires seat { seat < self.old.seats }
         requires row { row < self.old.rows }
         requires marked { marks_at self.old.tape.bytes.now seat row ≡ true }
-        ensures { Drawn (spool_of B.form B.blank self.old) seat (place_of B.form B.blank self.old seat row) (spool_of B.form B.blank self.new) }
+        ensures lists { Drawn (spool_of B.form B.blank self.old) seat (place_of B.form B.blank self.old seat row) (spool_of B.form B.blank self.new) }
+        ensures long { length self.new.tape.bytes.now ≡ length self.old.tape.bytes.now }
     {
         let left = mask_of(&self.tape.rows(self.rows)[row]) ^ (1 << seat);
         if is_done(left) {
@@ -126,7 +127,8 @@ impl<'a, B: Stored> Carrier for Spool<'a, B> {
         ensures answer { told (λ u. u) result ≡ put_answer (spool_of B.form B.blank self.old) letter.now.poster }
         ensures leaves { PutLeaves result (spool_of B.form B.blank self.old) letter.now.poster letter.now (spool_of B.form B.blank self.new) }
         ensures exact { Appends result (spool_of B.form B.blank self.old) letter.now.poster letter.now (spool_of B.form B.blank self.new) }
-        ensures row { AddsRow result self.old letter.now.poster self.new }
+        ensures row { AddsRow B.form result self.old letter.now self.new }
+        ensures long { length self.new.tape.bytes.now ≡ length self.old.tape.bytes.now }
         ensures kept { Kept result self.old.tape.bytes.now self.new.tape.bytes.now }
     {
         let poster = letter.poster();
@@ -148,6 +150,7 @@ impl<'a, B: Stored> Carrier for Spool<'a, B> {
     fn draw(&mut self, seat: u8, place: u32, parts: &mut Parts<B>) -> Result<(), Refusal>
         ensures answer { told (λ u. u) result ≡ draw_answer (spool_of B.form B.blank self.old) seat place }
         ensures leaves { DrawLeaves parts_of result (spool_of B.form B.blank self.old) seat place (spool_of B.form B.blank self.new) parts.old parts.new }
+        ensures long { length self.new.tape.bytes.now ≡ length self.old.tape.bytes.now }
         ensures kept { Kept result self.old.tape.bytes.now self.new.tape.bytes.now }
     {
         if seat >= self.seats {

@@ -62,8 +62,8 @@ invariant_of-self-else-is_done g c =
       seated = each_written (λ m. m < 2 ^ s.seats) s.rows b a s.seated i s.rows same (omega arith) (λ l. absurd (omega arith)) few;
     }
 
-pub returns-then-is_done : goal.returns-then-is_done
-returns-then-is_done g c =
+pub returns-then-is_done-clause-lists : goal.returns-then-is_done-clause-lists
+returns-then-is_done-clause-lists g c =
     let s = c.args.self.now in
     let b = s.tape.bytes.now in
     let a = c.close_up.new.self.bytes.now in
@@ -78,8 +78,8 @@ returns-then-is_done g c =
     let none : bit_xor (mask_of (row_at b i)) (2 ^ seat) ≡ 0 = sym turned ∙ ones_none s.seats _ (eqb-true _ _ (sym c.is_done.ensures ∙ c.if-is_done.true)) few in
     drawn_row read s.seats s.rows b a seat i c.requires.row c.requires.marked e.before e.behind none
 
-pub returns-else-is_done : goal.returns-else-is_done
-returns-else-is_done g c =
+pub returns-else-is_done-clause-lists : goal.returns-else-is_done-clause-lists
+returns-else-is_done-clause-lists g c =
     let s = c.args.self.now in
     let b = s.tape.bytes.now in
     let a = c.set_mask.new.self.bytes.now in

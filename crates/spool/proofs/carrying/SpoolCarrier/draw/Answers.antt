@@ -25,7 +25,7 @@ returns-clause-leaves g c =
     let item = letters_at read b in
     let below : place < length (m.waiting seat) = subst (λ p. p < length (m.waiting seat)) f.2 (picks_grow test item i s.rows f.0 f.1) in
     let at : get_or (m.waiting seat) place (item i) ≡ item i = ap (λ p. get_or (m.waiting seat) p (item i)) (sym f.2) ∙ picks_at test item i s.rows (item i) f.0 f.1 in (
-      subst (λ p. Drawn m seat p (spool_of form blank c.strike.new.self)) f.2 c.strike.ensures,
+      subst (λ p. Drawn m seat p (spool_of form blank c.strike.new.self)) f.2 c.strike.ensures.lists,
       c.read.ensures ∙ sym (get_or-map parts_of (m.waiting seat) place (item i) _ below ∙ ap parts_of at),
     )
 

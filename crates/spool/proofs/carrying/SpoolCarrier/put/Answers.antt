@@ -5,7 +5,8 @@ use Rattle.carriers.proofs.Appended.{put_appended}
 use Rattle.std.proofs.lemmas.Grind.{common_steps}
 use Rattle.spool.specs.Decoding.{letter_of}
 use Rattle.spool.specs.Masks.{all_but}
-use Rattle.spool.specs.Rows.{mask_of, row_at, row_fits}
+use Rattle.records.specs.Records.{record_of}
+use Rattle.spool.specs.Rows.{mask_of, record_part, row_at, row_fits}
 use Rattle.spool.specs.Spools.{spool_meaning, spool_of}
 use Rattle.spool.proofs.Bits.{ones_some, ones_none}
 use Rattle.spool.proofs.Bytes.{kept_rows}
@@ -60,8 +61,12 @@ returns-then-not-is_done g c =
       exact = exact;
       row = (
         sym (ap (λ n. cond (eqb (ones n) 0) s.rows (s.rows + 1)) (sym mask_is) ∙ cond-false _ _ _ (sym c.is_done.ensures ∙ c.if-not-is_done.true)),
-        λ r low high. let at : s.rows ≡ r = omega arith in subst (λ j. mask_of (row_at a j) ≡ all_but s.seats x.poster) at (c.set_mask.ensures.mask ∙ mask_is),
+        λ r l. kept_rows mid a s.rows c.set_mask.ensures.only r (omega arith) ∙ kept_rows b mid s.rows c.write.ensures.only r (omega arith),
+        λ r low high. let at : s.rows ≡ r = omega arith in
+            subst (λ j. (record_part (row_at a j) ≡ record_of form x) × (mask_of (row_at a j) ≡ all_but s.seats x.poster)) at
+            (c.set_mask.ensures.letter ∙ c.write.ensures.letter, c.set_mask.ensures.mask ∙ mask_is),
       );
+      long = c.set_mask.ensures.long ∙ c.write.ensures.long;
       kept = tt;
     }
 
@@ -82,6 +87,7 @@ returns-else-not-is_done g c =
       answer = search rules;
       leaves = put_appended m m x.poster x refl exact;
       exact = exact;
-      row = grind (arith, common_steps);
+      row = (grind (arith, common_steps), λ r l. refl, λ r low high. absurd (omega arith));
+      long = refl;
       kept = tt;
     }
