@@ -1,10 +1,11 @@
 #!/usr/bin/env python3
-"""The two misuses of a room that the check turns down, each beside its mended twin.
+"""Misuses of rooms and dockets that the check turns down, two of them beside their mended twins.
 
 usage: check_misuse.py
 
-Posting to a draft does not compile; one opens it first. Letting a docket fall does not compile; one sends or parks it. The
-crates below are made in a temporary folder, over copies of the crates that they stand on. Each twin must pass there, by
+Posting to a draft does not compile; one opens it first. Letting a docket fall does not compile; one sends or parks it. Nor
+does what else only the crate of rooms may do: to make a docket, to take one apart, to spend one twice, to enrol in an open
+room, to work a closed one. The crates below are made in a temporary folder, over copies of the crates that they stand on. Each twin must pass there, by
 `rt ci`, which knows what it has proved of the crates below on this machine; and `rt check` must refuse each misuse with the
 very line that it names.
 """
@@ -64,12 +65,56 @@ pub fn spend<B: Body, C: Carrier<Body = B>>(
 }
 """
 
+
+def misuse(uses, signature, body):
+    """A crate with one function, in which a docket or a room is misused."""
+    lines = "".join(f"use {used};\n" for used in uses)
+    return f"// A misuse.\n#![tactic(auto)]\n\n{lines}\npub fn misuse{signature} {{\n{body}}}\n"
+
+
+MAKE = misuse(["rooms::docket::Docket"], "(number: u16) -> Docket", "    Docket { room: 1, seat: 0, number }\n")
+MAKE_OF_SLIP = misuse(["rooms::docket::Docket", "seats::slip::Slip"], "(slip: Slip) -> Docket", "    Docket::of(slip)\n")
+TAKE_APART = misuse(
+    ["rooms::docket::Docket"],
+    "(docket: Docket) -> u16",
+    "    let Docket { room: _, seat: _, number } = docket;\n    number\n",
+)
+TURN = misuse(["rooms::docket::Docket", "seats::slip::Slip"], "(docket: Docket) -> Slip", "    docket.into_slip()\n")
+PARK_TWICE = misuse(
+    ["rooms::docket::{Docket, Returned}", "rooms::room::Room"],
+    "(room: &mut Room, docket: Docket) -> Result<(), Returned>",
+    "    room.park(docket)?;\n    room.park(docket)\n",
+)
+ENROL = misuse(
+    ["letters::refusal::Refusal", "rooms::room::Room"],
+    "(room: &mut Room) -> Result<u8, Refusal>",
+    "    room.enrol(7)\n",
+)
+POST_CLOSED = misuse(
+    ["letters::job::Job", "letters::letter::Letter", "letters::refusal::Refusal", "rooms::closed::ClosedRoom", "rooms::docket::Docket"],
+    "(room: &mut ClosedRoom, logs: &mut [Letter<Job>], holds: &[Letter<Job>]) -> Result<Docket, Refusal>",
+    "    room.post(logs, holds, 0, Job::Add(7))\n",
+)
+TAKE_OUT = misuse(
+    ["rooms::closed::ClosedRoom", "rooms::room::Room"],
+    "(closed: ClosedRoom) -> Room",
+    "    let ClosedRoom { room } = closed;\n    room\n",
+)
+
 # Name, source, and the words of the compiler's refusal; none for a crate that must pass.
 CRATES = [
     ("draft_posted_to", POST.replace("ROOM", "draft"), ["error[unknown-method]", "no method named `post` found for type `Draft`"]),
     ("draft_opened_first", POST.replace("ROOM", "draft.open(logs, holds, carrier)"), None),
     ("docket_let_fall", SPEND.replace("REFUSED", "Err(_) => Ok(()),"), ["error[linear-value-let-go]"]),
     ("docket_parked", SPEND.replace("REFUSED", "Err(Returned { docket, refusal: _ }) => room.park(docket),"), None),
+    ("docket_made", MAKE, ["error[private-field]", "field `room` of struct `Docket` is private"]),
+    ("docket_made_of_a_slip", MAKE_OF_SLIP, ["error[unknown-method]", "named `of` found for struct `Docket`"]),
+    ("docket_taken_apart", TAKE_APART, ["error[private-field]", "field `room` of struct `Docket` is private"]),
+    ("docket_turned_into_a_slip", TURN, ["error[unknown-method]", "no method named `into_slip` found for type `Docket`"]),
+    ("docket_parked_twice", PARK_TWICE, ["error[borrow-e0382]", "use of moved value: `docket`"]),
+    ("open_room_enrolled_in", ENROL, ["error[unknown-method]", "no method named `enrol` found for type `Room`"]),
+    ("closed_room_posted_to", POST_CLOSED, ["error[unknown-method]", "no method named `post` found for type `ClosedRoom`"]),
+    ("room_taken_out_of_a_closed_one", TAKE_OUT, ["error[private-field]", "field `room` of struct `ClosedRoom` is private"]),
 ]
 
 
