@@ -1,5 +1,5 @@
 -- What the steps of a pair come to, by those of its two carriers.
-use Rattle.std.proofs.Common.{◌≡◌, ℕ, ◌+◌, ◌-◌, ◌^◌, ◌<◌, ◌≤◌, min, true, ◌++◌, map, length, get_or, Ok, Err, Result, sym, refl, ap, ◌∙◌, subst, ⊎_elim, arith, length-append}
+use Rattle.std.proofs.Common.{inl, inr, ◌≡◌, ℕ, ◌+◌, ◌-◌, ◌^◌, ◌<◌, ◌≤◌, min, true, ◌++◌, map, length, get_or, Ok, Err, Result, sym, refl, ap, ◌∙◌, subst, ⊎_elim, arith, length-append}
 use Rattle.std.specs.List.{remove}
 use Rattle.std.proofs.lemmas.List.{get_or_append_left, get_or-append_right, map-append, length-map}
 use Rattle.std.proofs.lemmas.Bool.{eq-eqb, and_from, cases_lt}
@@ -9,8 +9,12 @@ use Rattle.carriers.specs.Meaning.{Meaning, PutOn, Drawn, waits_at, put_answer, 
 use Rattle.carriers.proofs.Decisions.{put_ok, draw_ok, draw_no_seat, draw_no_place, put_accepted, accepted_put, draw_accepted, accepted_draw, draw_refused, refused_draw}
 use Rattle.carriers.proofs.Gained.{gains_append}
 use Rattle.carriers.proofs.Removed.{removed_left, removed_right}
-use Rattle.pair.specs.Pairs.{joined, both}
+use Rattle.pair.specs.Pairs.{DrawsOne, joined, both}
 use Rattle.pair.specs.PairLaws.{both_level}
+
+-- no answer is a yes and a no
+no_yes : {w : Reason} {X : Type 0} → ◌≡◌ {A = Result (Unit {0}) Reason} (Err w) (Ok tt) → X
+no_yes e = let z : ◌≡◌ {A = ℕ} 0 1 = cc in absurd (omega arith)
 
 module _ {L : Type 0} where
   -- a put that both take
@@ -55,6 +59,25 @@ module _ {L : Type 0} where
     draws_at_both m n m' n' seat place x y r s s' d =
         subst (λ w. Draws r w seat place (both m' n') x y) (sym (both_level m n _ refl (eq-eqb _ _ s)))
         (subst (λ w. Draws r (joined m n) seat place w x y) (sym (both_level m' n' _ refl (eq-eqb _ _ s'))) d)
+
+    -- a draw that is accepted is at a place at which a letter waits
+    drawn_place : (m : Meaning L) (seat place : ℕ) → draw_answer m seat place ≡ Ok tt → place < waits_at m seat
+    drawn_place m seat place yes' = ⊎_elim
+        (λ near. near)
+        (λ far. ⊎_elim (λ here. no_yes (sym (draw_no_place m seat place here far) ∙ yes')) (λ out. no_yes (sym (draw_no_seat m seat place out) ∙ yes')) (cases_lt seat m.seats))
+        (cases_lt place (waits_at m seat))
+
+    -- which of the two was drawn from
+    pub one_first : (m n m' : Meaning L) (seat place : ℕ) (x y : P) (r : Result (Unit {0}) Refusal) → Draws r m seat place m' x y → DrawsOne r m n seat place m' n
+    one_first m n m' seat place x y (Ok u) d = let within = drawn_place m seat place (sym d.0) in inl (omega (arith, within), d.1.0, refl)
+    one_first m n m' seat place x y (Err why) d = (d.1.0, refl)
+
+    pub one_second : (m n n' : Meaning L) (seat place ahead : ℕ) (x y : P) (r : Result (Unit {0}) Refusal) → ahead ≡ waits_at m seat → ahead ≤ place → place < 2 ^ 32 - 1
+        → Draws r n seat (place - ahead) n' x y → DrawsOne r m n seat place m n'
+    one_second m n n' seat place ahead x y (Ok u) e h low d =
+        let all : ahead ≡ length (m.waiting seat) = omega arith in
+        inr (omega arith, subst (λ k. Drawn n seat (place - k) n') all d.1.0, refl)
+    one_second m n n' seat place ahead x y (Err why) e h low d = (refl, d.1.0)
 
     module _ (m n : Meaning L) (s : m.seats ≡ n.seats) (seat place : ℕ) (x y : P) (r : Result (Unit {0}) Refusal) where
       length-joined : length ((joined m n).waiting seat) ≡ length (m.waiting seat) + length (n.waiting seat)

@@ -1,7 +1,7 @@
 -- What a pair of carriers holds, and when one can be made.
-use Rattle.std.specs.Prelude.{ℕ, cond, ◌&&◌, ◌++◌, Ok, Result, ◌==◌}
+use Rattle.std.specs.Prelude.{◌≡◌, ℕ, ◌-◌, ◌<◌, ◌≤◌, cond, ◌&&◌, ◌++◌, ◌⊎◌, length, Ok, Err, Result, ◌==◌}
 use Rattle.letters.specs.Refusals.{Reason, unless}
-use Rattle.carriers.specs.Meaning.{Meaning}
+use Rattle.carriers.specs.Meaning.{Drawn, Meaning}
 
 -- what the check before a pair is made answers, for two numbers of seats
 abbrev pub pair_answer : ℕ → ℕ → Result (Unit {0}) Reason
@@ -18,3 +18,15 @@ joined m n = record {
 -- what a pair means. Two of unequal seats are never made a pair; there it is the first's meaning, so that each value has one.
 abbrev pub both : {L : Type 0} → Meaning L → Meaning L → Meaning L
 both m n = cond (m.seats == n.seats) (joined m n) m
+
+module _ {L : Type 0} where
+  -- the place is the first's, which was drawn from; or it is behind those, and the second was. The other is as it was.
+  abbrev pub DrawnFrom : Meaning L → Meaning L → ℕ → ℕ → Meaning L → Meaning L → Type 0
+  DrawnFrom m n seat place m' n' =
+      ((place < length (m.waiting seat)) × Drawn m seat place m' × (n' ≡ n))
+      ⊎ ((length (m.waiting seat) ≤ place) × Drawn n seat (place - length (m.waiting seat)) n' × (m' ≡ m))
+
+  -- what a draw leaves in the two: by a no, both as they were
+  abbrev pub DrawsOne : {E : Type 0} → Result (Unit {0}) E → Meaning L → Meaning L → ℕ → ℕ → Meaning L → Meaning L → Type 0
+  DrawsOne (Ok _) m n seat place m' n' = DrawnFrom m n seat place m' n'
+  DrawsOne (Err _) m n seat place m' n' = (m' ≡ m) × (n' ≡ n)

@@ -3,9 +3,10 @@
 
 ghost use Rattle.std.specs.Prelude.{◌≡◌, Ok};
 ghost use Rattle.letters.specs.Refusals.{told};
-ghost use Rattle.carriers.specs.Meaning.{PutLeaves, put_answer};
+ghost use Rattle.letters.specs.Letters.{parts_of};
+ghost use Rattle.carriers.specs.Meaning.{DrawLeaves, PutLeaves, draw_answer, put_answer};
 ghost use Rattle.pair.specs.PairLaws.{lawful_both};
-ghost use Rattle.pair.specs.Pairs.{both, pair_answer};
+ghost use Rattle.pair.specs.Pairs.{DrawsOne, both, pair_answer};
 
 use carriers::carrier::Carrier;
 use letters::letter::Letter;
@@ -85,7 +86,11 @@ impl<C: Carrier, D: Carrier<Body = C::Body>> Carrier for Pair<C, D> {
         self.second.put(letter)
     }
 
-    fn draw(&mut self, seat: u8, place: u32, parts: &mut Parts<C::Body>) -> Result<(), Refusal> {
+    fn draw(&mut self, seat: u8, place: u32, parts: &mut Parts<C::Body>) -> Result<(), Refusal>
+        ensures answer { told (λ u. u) result ≡ draw_answer (both (C.Carrier.meaning self.old.first) (D.Carrier.meaning self.old.second)) seat place }
+        ensures leaves { DrawLeaves parts_of result (both (C.Carrier.meaning self.old.first) (D.Carrier.meaning self.old.second)) seat place (both (C.Carrier.meaning self.new.first) (D.Carrier.meaning self.new.second)) parts.old parts.new }
+        ensures one { DrawsOne result (C.Carrier.meaning self.old.first) (D.Carrier.meaning self.old.second) seat place (C.Carrier.meaning self.new.first) (D.Carrier.meaning self.new.second) }
+    {
         let ahead = self.first.waits(seat);
         // A place of 2^32 - 1 is below no answer of `waits`, so the first refuses it for both.
         if place < ahead || place == u32::MAX {

@@ -1,5 +1,5 @@
 -- What a put and a draw do to what a spool holds.
-use Rattle.std.proofs.Common.{◌≡◌, ℕ, suc, ◌+◌, ◌-◌, ◌^◌, ◌<◌, ◌≤◌, Bool, true, false, cond, not, ◌&&◌, eqb, ltb, List, [], ◌∷◌, ◌++◌, length, sym, refl, ap, ◌∙◌, subst, ⊎_elim, append-nil, add-one, arith}
+use Rattle.std.proofs.Common.{◌≡◌, ℕ, suc, ◌+◌, ◌-◌, ◌^◌, ◌<◌, ◌≤◌, Bool, true, false, cond, not, ◌&&◌, eqb, ltb, ◌==◌, count_ones, List, [], ◌∷◌, ◌++◌, length, sym, refl, ap, ◌∙◌, subst, ⊎_elim, append-nil, add-one, arith}
 use lib.Bits.{bit_xor, xor_lt}
 use Rattle.std.proofs.lemmas.Nat.{pow_pos, pow_below}
 use Rattle.std.proofs.lemmas.Bool.{cases_eq, cases_lt, and_from, and_left, and_right, cond-false, eq-eqb, ne_eqb, lt-ltb, le-ltb}
@@ -7,7 +7,8 @@ use Rattle.carriers.specs.Appending.{appended}
 use Rattle.carriers.specs.Meaning.{Drawn}
 use Rattle.spool.specs.Masks.{all_but, full, marked}
 use Rattle.spool.specs.Rows.{row_at, mask_of, picks, marks_at, letters_at, record_part}
-use Rattle.spool.specs.Spools.{spool_meaning}
+use Rattle.spool.specs.declared.Spool.{Spool}
+use Rattle.spool.specs.Spools.{RowStruck, StrikesRow, spool_meaning}
 use Rattle.spool.specs.SpoolLaws.{no_bit}
 use Rattle.spool.proofs.Bits.{cleared, other_bit, full_bit}
 use Rattle.spool.proofs.Picks.{picks_same, picks_clear, picks_close}
@@ -106,3 +107,8 @@ pub nobody_else : {L : Type 0} (letter : List ℕ → L) (seats rows : ℕ) (b :
     (k : ℕ) → (spool_meaning letter seats rows b).waiting k ≡ appended (spool_meaning letter seats rows b) poster x k
 nobody_else letter seats rows b poster x h none k =
     sym (cond-false _ _ _ (sym (but_marks seats poster k h) ∙ ap (λ m. marked m k) none ∙ no_bit 0 0 k (omega arith) (omega arith)))
+
+-- a row's lot, by what is left in its mask
+pub struck : {B : Type 0} (s : Spool B) (row seat : ℕ) (after : Spool B) (t : Bool) → t ≡ (count_ones (bit_xor (mask_of (row_at s.tape.bytes.now row)) (2 ^ seat)) == 0)
+    → RowStruck t s row seat after → StrikesRow s row seat after
+struck s row seat after t e lot = subst (λ u. RowStruck u s row seat after) e lot

@@ -1,5 +1,5 @@
 -- What a spool means.
-use Rattle.std.specs.Prelude.{◌≡◌, ℕ, ◌+◌, ◌-◌, ◌^◌, ◌<◌, ◌≤◌, true, cond, ◌&&◌, List, length, Some, None, Option, Ok, Err, Result, ◌==◌, count_ones, nat_lt}
+use Rattle.std.specs.Prelude.{◌≡◌, ℕ, ◌+◌, ◌-◌, ◌^◌, ◌<◌, ◌≤◌, Bool, true, false, cond, ◌&&◌, List, length, Some, None, Option, Ok, Err, Result, ◌==◌, bit_xor, count_ones, nat_lt}
 use Rattle.letters.specs.declared.letter.Letter.{Letter}
 use Rattle.letters.specs.Forms.{Form}
 use Rattle.carriers.specs.Meaning.{Meaning, waits_at}
@@ -42,3 +42,25 @@ AddsRow form (Ok _) s m after =
     × ((r : ℕ) → s.rows ≤ r → r < after.rows
     → (record_part (row_at after.tape.bytes.now r) ≡ record_of form m) × (mask_of (row_at after.tape.bytes.now r) ≡ all_but s.seats m.poster))
 AddsRow form (Err _) s m after = Unit {0}
+
+-- what becomes of a row when a seat's bit is taken out: where no bit is left it is removed and later rows close up, else its
+-- mask lacks the bit and the other rows stay
+abbrev pub RowStruck : {B : Type 0} → Bool → Spool B → ℕ → ℕ → Spool B → Type 0
+RowStruck true s row seat after =
+    (after.rows + 1 ≡ s.rows)
+    × ((r : ℕ) → r < row → row_at after.tape.bytes.now r ≡ row_at s.tape.bytes.now r)
+    × ((r : ℕ) → row ≤ r → r + 1 < s.rows → row_at after.tape.bytes.now r ≡ row_at s.tape.bytes.now (r + 1))
+RowStruck false s row seat after =
+    (after.rows ≡ s.rows)
+    × ((r : ℕ) → ¬ (r ≡ row) → row_at after.tape.bytes.now r ≡ row_at s.tape.bytes.now r)
+    × (record_part (row_at after.tape.bytes.now row) ≡ record_part (row_at s.tape.bytes.now row))
+    × (mask_of (row_at after.tape.bytes.now row) ≡ bit_xor (mask_of (row_at s.tape.bytes.now row)) (2 ^ seat))
+
+-- the ones that are left in its mask decide it
+abbrev pub StrikesRow : {B : Type 0} → Spool B → ℕ → ℕ → Spool B → Type 0
+StrikesRow s row seat after = RowStruck (count_ones (bit_xor (mask_of (row_at s.tape.bytes.now row)) (2 ^ seat)) == 0) s row seat after
+
+-- an accepted draw takes the seat's bit out of the row at the place
+abbrev pub DrawsRow : {B E : Type 0} → Form B → B → Result (Unit {0}) E → Spool B → ℕ → ℕ → Spool B → Type 0
+DrawsRow form blank (Ok _) s seat place after = (row : ℕ) × StandsAt form blank s seat place (Some row) × StrikesRow s row seat after
+DrawsRow form blank (Err _) s seat place after = Unit {0}

@@ -9,7 +9,7 @@ ghost use Rattle.std.specs.Option.{option_map};
 ghost use Rattle.spool.specs.Masks.{marked};
 ghost use Rattle.spool.specs.Rows.{mask_of, marks_at, spool_answer};
 ghost use Rattle.spool.specs.SpoolLaws.{lawful_spool};
-ghost use Rattle.spool.specs.Spools.{AddsRow, StandsAt, place_of, spool_of};
+ghost use Rattle.spool.specs.Spools.{AddsRow, DrawsRow, StandsAt, StrikesRow, place_of, spool_of};
 
 use crate::Spool;
 use crate::masks::{all_but, is_done, marks};
@@ -68,6 +68,7 @@ impl<'a, B: Stored> Spool<'a, B> {
         requires row { row < self.old.rows }
         requires marked { marks_at self.old.tape.bytes.now seat row ≡ true }
         ensures lists { Drawn (spool_of B.form B.blank self.old) seat (place_of B.form B.blank self.old seat row) (spool_of B.form B.blank self.new) }
+        ensures row { StrikesRow self.old row seat self.new }
         ensures long { length self.new.tape.bytes.now ≡ length self.old.tape.bytes.now }
     {
         let left = mask_of(&self.tape.rows(self.rows)[row]) ^ (1 << seat);
@@ -150,6 +151,7 @@ impl<'a, B: Stored> Carrier for Spool<'a, B> {
     fn draw(&mut self, seat: u8, place: u32, parts: &mut Parts<B>) -> Result<(), Refusal>
         ensures answer { told (λ u. u) result ≡ draw_answer (spool_of B.form B.blank self.old) seat place }
         ensures leaves { DrawLeaves parts_of result (spool_of B.form B.blank self.old) seat place (spool_of B.form B.blank self.new) parts.old parts.new }
+        ensures row { DrawsRow B.form B.blank result self.old seat place self.new }
         ensures long { length self.new.tape.bytes.now ≡ length self.old.tape.bytes.now }
         ensures kept { Kept result self.old.tape.bytes.now self.new.tape.bytes.now }
     {

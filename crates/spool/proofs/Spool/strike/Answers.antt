@@ -1,4 +1,4 @@
-use Rattle.std.proofs.Common.{◌≡◌, ◌*◌, ◌%◌, ◌^◌, ◌<◌, ◌≤◌, sym, ap, ◌∙◌, subst, arith}
+use Rattle.std.proofs.Common.{◌≡◌, ◌*◌, ◌%◌, ◌^◌, ◌<◌, ◌≤◌, true, false, ◌==◌, count_ones, refl, sym, ap, ◌∙◌, subst, arith}
 use lib.Bits.{bit_xor}
 use Rattle.std.proofs.lemmas.Nat.{one_shl}
 use Rattle.std.proofs.lemmas.Bool.{eqb-false, eqb-true}
@@ -8,7 +8,7 @@ use Rattle.spool.proofs.Bits.{ones_some, ones_none}
 use Rattle.spool.proofs.Bytes.{kept_rows}
 use Rattle.spool.proofs.Kept.{each_closed, each_written}
 use Rattle.spool.proofs.Rows.{all_lent, lent_mask}
-use Rattle.spool.proofs.Steps.{drawn_mask, drawn_row, turned_below}
+use Rattle.spool.proofs.Steps.{drawn_mask, drawn_row, struck, turned_below}
 use Rattle.spool.proofs.Spool.strike.Goals as goal
 
 pub offset_bounds-rows-row : goal.offset_bounds-rows-row
@@ -91,3 +91,30 @@ returns-else-is_done-clause-lists g c =
     let shl : (1 * 2 ^ seat) % 65536 ≡ 2 ^ seat = one_shl seat 16 (omega (arith, s.few, c.requires.seat)) in
     let turned : mask_of (row_at a i) ≡ bit_xor (mask_of (row_at b i)) (2 ^ seat) = e.mask ∙ ap (λ m. bit_xor m ((1 * 2 ^ seat) % 65536)) cut ∙ ap (bit_xor (mask_of (row_at b i))) shl in
     drawn_mask read s.seats s.rows b a seat i c.requires.row c.requires.marked (kept_rows b a i e.only) turned e.letter
+
+pub returns-then-is_done-clause-row : goal.returns-then-is_done-clause-row
+returns-then-is_done-clause-row g c =
+    let s = c.args.self.now in
+    let b = s.tape.bytes.now in
+    let i = c.args.row in
+    let seat = c.args.seat in
+    let e = c.close_up.ensures in
+    let cut = lent_mask s.rows b _ c.rows.ensures i c.mask_of.result c.requires.row c.mask_of.ensures in
+    let shl : (1 * 2 ^ seat) % 65536 ≡ 2 ^ seat = one_shl seat 16 (omega (arith, s.few, c.requires.seat)) in
+    let turned : bit_xor c.mask_of.result ((1 * 2 ^ seat) % 65536) ≡ bit_xor (mask_of (row_at b i)) (2 ^ seat) = ap (λ m. bit_xor m ((1 * 2 ^ seat) % 65536)) cut ∙ ap (bit_xor (mask_of (row_at b i))) shl in
+    let none : true ≡ (count_ones (bit_xor (mask_of (row_at b i)) (2 ^ seat)) == 0) = sym c.if-is_done.true ∙ c.is_done.ensures ∙ ap (λ m. count_ones m == 0) turned in
+    struck s i seat _ true none (omega (arith, c.requires.row), e.before, e.behind)
+
+pub returns-else-is_done-clause-row : goal.returns-else-is_done-clause-row
+returns-else-is_done-clause-row g c =
+    let s = c.args.self.now in
+    let b = s.tape.bytes.now in
+    let a = c.set_mask.new.self.bytes.now in
+    let i = c.args.row in
+    let seat = c.args.seat in
+    let e = c.set_mask.ensures in
+    let cut = lent_mask s.rows b _ c.rows.ensures i c.mask_of.result c.requires.row c.mask_of.ensures in
+    let shl : (1 * 2 ^ seat) % 65536 ≡ 2 ^ seat = one_shl seat 16 (omega (arith, s.few, c.requires.seat)) in
+    let turned : bit_xor c.mask_of.result ((1 * 2 ^ seat) % 65536) ≡ bit_xor (mask_of (row_at b i)) (2 ^ seat) = ap (λ m. bit_xor m ((1 * 2 ^ seat) % 65536)) cut ∙ ap (bit_xor (mask_of (row_at b i))) shl in
+    let some : false ≡ (count_ones (bit_xor (mask_of (row_at b i)) (2 ^ seat)) == 0) = sym c.if-is_done.false ∙ c.is_done.ensures ∙ ap (λ m. count_ones m == 0) turned in
+    struck s i seat _ false some (refl, kept_rows b a i e.only, e.letter, e.mask ∙ turned)

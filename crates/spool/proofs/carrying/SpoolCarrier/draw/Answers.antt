@@ -48,3 +48,6 @@ returns-clause-answer g c =
     let below : place < length (m.waiting seat) = subst (λ p. p < length (m.waiting seat)) f.2 (picks_grow test item i s.rows f.0 f.1) in
     let waits : place < waits_at m seat = omega (arith, below, f.3) in
     accepted seat s.seats place (waits_at m seat) (search rules) waits
+
+pub returns-clause-row : goal.returns-clause-row
+returns-clause-row g c = (c.in-Some.row, subst (StandsAt g.B.Body.form g.B.Stored.blank c.args.self.now c.args.seat c.args.place) c.in-Some.is c.find.ensures, c.strike.ensures.row)
