@@ -267,7 +267,7 @@ CLASSES = {
     "input in pieces": pieces,
     "endless input after a fault": endless,
     "wrong uses": wrong_uses,
-    "100,000 letters": large_files,
+    f"{MANY:,} letters": large_files,
 }
 
 
