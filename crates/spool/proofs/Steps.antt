@@ -1,20 +1,26 @@
 -- What a put and a draw do to what a spool holds.
-use Rattle.std.proofs.Common.{◌≡◌, ℕ, suc, ◌+◌, ◌-◌, ◌^◌, ◌<◌, ◌≤◌, Bool, true, false, cond, not, ◌&&◌, eqb, ltb, ◌==◌, count_ones, List, [], ◌∷◌, ◌++◌, length, sym, refl, ap, ◌∙◌, subst, ⊎_elim, append-nil, add-one, arith}
+use Rattle.std.proofs.Common.{◌≡◌, ℕ, suc, ◌+◌, ◌-◌, ◌*◌, ◌%◌, ◌^◌, ◌<◌, ◌≤◌, Bool, true, false, cond, not, ◌&&◌, eqb, ltb, ◌==◌, count_ones, Some, List, [], ◌∷◌, ◌++◌, length, sym, refl, ap, ◌∙◌, subst, ⊎_elim, append-nil, add-one, arith}
 use lib.Bits.{bit_xor, xor_lt}
-use Rattle.std.proofs.lemmas.Nat.{pow_pos, pow_below}
+use Rattle.std.proofs.lemmas.Nat.{one_shl, pow_pos, pow_below}
 use Rattle.std.proofs.lemmas.Bool.{cases_eq, cases_lt, and_from, and_left, and_right, cond-false, eq-eqb, ne_eqb, lt-ltb, le-ltb}
 use Rattle.carriers.specs.Appending.{appended}
 use Rattle.carriers.specs.Meaning.{Drawn}
 use Rattle.spool.specs.Masks.{all_but, full, marked}
 use Rattle.spool.specs.Rows.{row_at, mask_of, picks, marks_at, letters_at, record_part}
 use Rattle.spool.specs.declared.Spool.{Spool}
-use Rattle.spool.specs.Spools.{RowStruck, StrikesRow, spool_meaning}
+use Rattle.letters.specs.Forms.{Form}
+use Rattle.spool.specs.Decoding.{letter_of}
+use Rattle.spool.specs.Spools.{RowStruck, StandsAt, StrikesRow, spool_meaning, spool_of}
 use Rattle.spool.specs.SpoolLaws.{no_bit}
 use Rattle.spool.proofs.Bits.{cleared, other_bit, full_bit}
-use Rattle.spool.proofs.Picks.{picks_same, picks_clear, picks_close}
+use Rattle.spool.proofs.Picks.{picks_same, picks_clear, picks_close, picks_grow}
 
 pub turned_below : (seats mask seat : ℕ) → mask < 2 ^ seats → seat < seats → bit_xor mask (2 ^ seat) < 2 ^ seats
 turned_below seats mask seat l h = xor_lt seats mask (2 ^ seat) l (pow_below seat seats h)
+
+-- a mask with a seat's bit turned, as the code shifts the bit
+pub turned_bit : (m k seat : ℕ) → m ≡ k → seat < 16 → bit_xor m ((1 * 2 ^ seat) % 65536) ≡ bit_xor k (2 ^ seat)
+turned_bit m k seat e h = ap (λ x. bit_xor x ((1 * 2 ^ seat) % 65536)) e ∙ ap (bit_xor k) (one_shl seat 16 h)
 
 pub but_below : (seats poster : ℕ) → poster < seats → all_but seats poster < 2 ^ seats
 but_below seats poster h = let p = pow_pos seats in turned_below seats (full seats) poster (omega arith) h
@@ -112,3 +118,9 @@ nobody_else letter seats rows b poster x h none k =
 pub struck : {B : Type 0} (s : Spool B) (row seat : ℕ) (after : Spool B) (t : Bool) → t ≡ (count_ones (bit_xor (mask_of (row_at s.tape.bytes.now row)) (2 ^ seat)) == 0)
     → RowStruck t s row seat after → StrikesRow s row seat after
 struck s row seat after t e lot = subst (λ u. RowStruck u s row seat after) e lot
+
+-- a row that stands at a place of a seat's list has one there
+pub stands_below : {B : Type 0} (form : Form B) (blank : B) (s : Spool B) (seat place row : ℕ) → StandsAt form blank s seat place (Some row) → place < length ((spool_of form blank s).waiting seat)
+stands_below form blank s seat place row f =
+    subst (λ p. p < length ((spool_of form blank s).waiting seat)) f.2
+    (picks_grow (marks_at s.tape.bytes.now seat) (letters_at (letter_of form blank) s.tape.bytes.now) row s.rows f.0 f.1)

@@ -1,6 +1,5 @@
 use Rattle.std.proofs.Common.{◌≡◌, ◌*◌, ◌%◌, ◌^◌, ◌<◌, ◌≤◌, true, false, ◌==◌, count_ones, refl, sym, ap, ◌∙◌, subst, arith}
 use lib.Bits.{bit_xor}
-use Rattle.std.proofs.lemmas.Nat.{one_shl}
 use Rattle.std.proofs.lemmas.Bool.{eqb-false, eqb-true}
 use Rattle.spool.specs.Decoding.{letter_of}
 use Rattle.spool.specs.Rows.{mask_of, row_at}
@@ -8,7 +7,7 @@ use Rattle.spool.proofs.Bits.{ones_some, ones_none}
 use Rattle.spool.proofs.Bytes.{kept_rows}
 use Rattle.spool.proofs.Kept.{each_closed, each_written}
 use Rattle.spool.proofs.Rows.{all_lent, lent_mask}
-use Rattle.spool.proofs.Steps.{drawn_mask, drawn_row, struck, turned_below}
+use Rattle.spool.proofs.Steps.{drawn_mask, drawn_row, struck, turned_below, turned_bit}
 use Rattle.spool.proofs.Spool.strike.Goals as goal
 
 pub offset_bounds-rows-row : goal.offset_bounds-rows-row
@@ -48,8 +47,7 @@ invariant_of-self-else-is_done g c =
     let seat = c.args.seat in
     let e = c.set_mask.ensures in
     let cut = lent_mask s.rows b _ c.rows.ensures i c.mask_of.result c.requires.row c.mask_of.ensures in
-    let shl : (1 * 2 ^ seat) % 65536 ≡ 2 ^ seat = one_shl seat 16 (omega (arith, s.few, c.requires.seat)) in
-    let turned : mask_of (row_at a i) ≡ bit_xor (mask_of (row_at b i)) (2 ^ seat) = e.mask ∙ ap (λ m. bit_xor m ((1 * 2 ^ seat) % 65536)) cut ∙ ap (bit_xor (mask_of (row_at b i))) shl in
+    let turned : mask_of (row_at a i) ≡ bit_xor (mask_of (row_at b i)) (2 ^ seat) = e.mask ∙ turned_bit c.mask_of.result (mask_of (row_at b i)) seat cut (omega (arith, s.few, c.requires.seat)) in
     let some : 0 < mask_of (row_at a i) = subst (λ m. 0 < m) (sym e.mask) (ones_some _ (eqb-false _ _ (sym c.is_done.ensures ∙ c.if-is_done.false))) in
     let few : mask_of (row_at a i) < 2 ^ s.seats = subst (λ m. m < 2 ^ s.seats) (sym turned) (turned_below s.seats (mask_of (row_at b i)) seat (s.seated i c.requires.row) c.requires.seat) in
     let same = kept_rows b a i e.only in
@@ -72,8 +70,7 @@ returns-then-is_done-clause-lists g c =
     let read = letter_of g.B.Body.form g.B.Stored.blank in
     let e = c.close_up.ensures in
     let cut = lent_mask s.rows b _ c.rows.ensures i c.mask_of.result c.requires.row c.mask_of.ensures in
-    let shl : (1 * 2 ^ seat) % 65536 ≡ 2 ^ seat = one_shl seat 16 (omega (arith, s.few, c.requires.seat)) in
-    let turned : bit_xor c.mask_of.result ((1 * 2 ^ seat) % 65536) ≡ bit_xor (mask_of (row_at b i)) (2 ^ seat) = ap (λ m. bit_xor m ((1 * 2 ^ seat) % 65536)) cut ∙ ap (bit_xor (mask_of (row_at b i))) shl in
+    let turned : bit_xor c.mask_of.result ((1 * 2 ^ seat) % 65536) ≡ bit_xor (mask_of (row_at b i)) (2 ^ seat) = turned_bit c.mask_of.result (mask_of (row_at b i)) seat cut (omega (arith, s.few, c.requires.seat)) in
     let few : bit_xor c.mask_of.result ((1 * 2 ^ seat) % 65536) < 2 ^ s.seats = subst (λ m. m < 2 ^ s.seats) (sym turned) (turned_below s.seats (mask_of (row_at b i)) seat (s.seated i c.requires.row) c.requires.seat) in
     let none : bit_xor (mask_of (row_at b i)) (2 ^ seat) ≡ 0 = sym turned ∙ ones_none s.seats _ (eqb-true _ _ (sym c.is_done.ensures ∙ c.if-is_done.true)) few in
     drawn_row read s.seats s.rows b a seat i c.requires.row c.requires.marked e.before e.behind none
@@ -88,8 +85,7 @@ returns-else-is_done-clause-lists g c =
     let read = letter_of g.B.Body.form g.B.Stored.blank in
     let e = c.set_mask.ensures in
     let cut = lent_mask s.rows b _ c.rows.ensures i c.mask_of.result c.requires.row c.mask_of.ensures in
-    let shl : (1 * 2 ^ seat) % 65536 ≡ 2 ^ seat = one_shl seat 16 (omega (arith, s.few, c.requires.seat)) in
-    let turned : mask_of (row_at a i) ≡ bit_xor (mask_of (row_at b i)) (2 ^ seat) = e.mask ∙ ap (λ m. bit_xor m ((1 * 2 ^ seat) % 65536)) cut ∙ ap (bit_xor (mask_of (row_at b i))) shl in
+    let turned : mask_of (row_at a i) ≡ bit_xor (mask_of (row_at b i)) (2 ^ seat) = e.mask ∙ turned_bit c.mask_of.result (mask_of (row_at b i)) seat cut (omega (arith, s.few, c.requires.seat)) in
     drawn_mask read s.seats s.rows b a seat i c.requires.row c.requires.marked (kept_rows b a i e.only) turned e.letter
 
 pub returns-then-is_done-clause-row : goal.returns-then-is_done-clause-row
@@ -100,8 +96,7 @@ returns-then-is_done-clause-row g c =
     let seat = c.args.seat in
     let e = c.close_up.ensures in
     let cut = lent_mask s.rows b _ c.rows.ensures i c.mask_of.result c.requires.row c.mask_of.ensures in
-    let shl : (1 * 2 ^ seat) % 65536 ≡ 2 ^ seat = one_shl seat 16 (omega (arith, s.few, c.requires.seat)) in
-    let turned : bit_xor c.mask_of.result ((1 * 2 ^ seat) % 65536) ≡ bit_xor (mask_of (row_at b i)) (2 ^ seat) = ap (λ m. bit_xor m ((1 * 2 ^ seat) % 65536)) cut ∙ ap (bit_xor (mask_of (row_at b i))) shl in
+    let turned : bit_xor c.mask_of.result ((1 * 2 ^ seat) % 65536) ≡ bit_xor (mask_of (row_at b i)) (2 ^ seat) = turned_bit c.mask_of.result (mask_of (row_at b i)) seat cut (omega (arith, s.few, c.requires.seat)) in
     let none : true ≡ (count_ones (bit_xor (mask_of (row_at b i)) (2 ^ seat)) == 0) = sym c.if-is_done.true ∙ c.is_done.ensures ∙ ap (λ m. count_ones m == 0) turned in
     struck s i seat _ true none (omega (arith, c.requires.row), e.before, e.behind)
 
@@ -114,7 +109,6 @@ returns-else-is_done-clause-row g c =
     let seat = c.args.seat in
     let e = c.set_mask.ensures in
     let cut = lent_mask s.rows b _ c.rows.ensures i c.mask_of.result c.requires.row c.mask_of.ensures in
-    let shl : (1 * 2 ^ seat) % 65536 ≡ 2 ^ seat = one_shl seat 16 (omega (arith, s.few, c.requires.seat)) in
-    let turned : bit_xor c.mask_of.result ((1 * 2 ^ seat) % 65536) ≡ bit_xor (mask_of (row_at b i)) (2 ^ seat) = ap (λ m. bit_xor m ((1 * 2 ^ seat) % 65536)) cut ∙ ap (bit_xor (mask_of (row_at b i))) shl in
+    let turned : bit_xor c.mask_of.result ((1 * 2 ^ seat) % 65536) ≡ bit_xor (mask_of (row_at b i)) (2 ^ seat) = turned_bit c.mask_of.result (mask_of (row_at b i)) seat cut (omega (arith, s.few, c.requires.seat)) in
     let some : false ≡ (count_ones (bit_xor (mask_of (row_at b i)) (2 ^ seat)) == 0) = sym c.if-is_done.false ∙ c.is_done.ensures ∙ ap (λ m. count_ones m == 0) turned in
     struck s i seat _ false some (refl, kept_rows b a i e.only, e.letter, e.mask ∙ turned)
