@@ -1,5 +1,5 @@
 -- A put that adds one copy at the end of each list.
-use Rattle.std.specs.Prelude.{◌≡◌, ℕ, cond, not, ◌&&◌, List, [], ◌∷◌, ◌++◌, Ok, Err, Result, ◌==◌, nat_lt}
+use Rattle.std.specs.Prelude.{◌≡◌, ℕ, cond, not, ◌&&◌, List, [], ◌∷◌, ◌++◌, ◌==◌, nat_lt}
 use Rattle.carriers.specs.Meaning.{Meaning}
 
 module _ {L : Type 0} where
@@ -7,7 +7,6 @@ module _ {L : Type 0} where
   abbrev pub appended : Meaning L → ℕ → L → ℕ → List L
   appended m poster x k = cond (nat_lt k m.seats && not (k == poster)) (m.waiting k ++ (x ∷ [])) (m.waiting k)
 
-  -- what an accepted put leaves on such a carrier
-  abbrev pub Appends : {E : Type 0} → Result (Unit {0}) E → Meaning L → ℕ → L → Meaning L → Type 0
-  Appends (Ok _) m poster x after = (k : ℕ) → after.waiting k ≡ appended m poster x k
-  Appends (Err _) m poster x after = Unit {0}
+  -- what one put leaves on such a carrier
+  abbrev pub Appends : Meaning L → ℕ → L → Meaning L → Type 0
+  Appends m poster x after = (k : ℕ) → after.waiting k ≡ appended m poster x k

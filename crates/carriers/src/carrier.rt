@@ -1,5 +1,5 @@
 // What a carrier is.
-ghost use Rattle.std.specs.Prelude.{◌≡◌};
+ghost use Rattle.std.specs.Prelude.{◌≡◌, OnOk};
 ghost use Rattle.letters.specs.declared.letter.Letter.{Letter};
 ghost use Rattle.letters.specs.Letters.{parts_of};
 ghost use Rattle.letters.specs.Refusals.{told};
@@ -18,6 +18,10 @@ pub trait Carrier {
 
     ghost lawful: { (c : Self) → Lawful (meaning c) };
 
+    // What one put of a letter makes of the carrier. Two puts of a letter and one that brings it twice can come to the same
+    // meaning; each make of carrier says here what its own one put does.
+    ghost puts: { Self → Letter Self.Body → Self → Type 0 };
+
     // How many seats it serves; this never changes.
     fn seats(&self) -> u8
         ensures { result ≡ (meaning self.now).seats };
@@ -33,7 +37,8 @@ pub trait Carrier {
     // Takes a letter for every seat but its poster; 8 where the poster is no seat here, 11 where it does not fit.
     fn put(&mut self, letter: &Letter<Self::Body>) -> Result<(), Refusal>
         ensures answer { told (λ u. u) result ≡ put_answer (meaning self.old) letter.now.poster }
-        ensures leaves { PutLeaves result (meaning self.old) letter.now.poster letter.now (meaning self.new) };
+        ensures leaves { PutLeaves result (meaning self.old) letter.now.poster letter.now (meaning self.new) }
+        ensures once { OnOk result (puts self.old letter.now self.new) };
 
     // Takes out the letter that waits at a place and fills the lent parts with its own; 8 where the seat is none here,
     // 14 where the place is past those that wait.

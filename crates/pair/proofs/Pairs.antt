@@ -1,5 +1,5 @@
 -- What the steps of a pair come to, by those of its two carriers.
-use Rattle.std.proofs.Common.{inl, inr, ◌≡◌, ℕ, ◌+◌, ◌-◌, ◌^◌, ◌<◌, ◌≤◌, min, true, ◌++◌, map, length, get_or, Ok, Err, Result, sym, refl, ap, ◌∙◌, subst, ⊎_elim, arith, length-append}
+use Rattle.std.proofs.Common.{inl, inr, ◌≡◌, ℕ, ◌+◌, ◌-◌, ◌^◌, ◌<◌, ◌≤◌, min, true, ◌++◌, map, length, get_or, Ok, Err, OnOk, Result, sym, refl, ap, ◌∙◌, subst, ⊎_elim, arith, length-append}
 use Rattle.std.specs.List.{remove}
 use Rattle.std.proofs.lemmas.List.{get_or_append_left, get_or-append_right, map-append, length-map}
 use Rattle.std.proofs.lemmas.Bool.{eq-eqb, and_from, cases_lt}
@@ -15,6 +15,12 @@ use Rattle.pair.specs.PairLaws.{both_level}
 -- no answer is a yes and a no
 no_yes : {w : Reason} {X : Type 0} → ◌≡◌ {A = Result (Unit {0}) Reason} (Err w) (Ok tt) → X
 no_yes e = let z : ◌≡◌ {A = ℕ} 0 1 = cc in absurd (omega arith)
+
+-- what holds of the first's put, which was accepted, and of the second's holds of both where the second's was
+pub once_both : (r₁ r₂ : Result (Unit {0}) Refusal) (P Q : Type 0) → told (λ u. u) r₁ ≡ Ok tt → OnOk r₁ P → OnOk r₂ Q → OnOk r₂ (P × Q)
+once_both (Ok u) (Ok v) P Q took p q = (p, q)
+once_both (Ok u) (Err why) P Q took p q = tt
+once_both (Err why) r₂ P Q took p q = no_yes took
 
 module _ {L : Type 0} where
   -- a put that both take

@@ -1,7 +1,7 @@
 // Pair: two carriers as one. A letter goes to both, and a seat's list is the first's followed by the second's.
 #![tactic(auto)]
 
-ghost use Rattle.std.specs.Prelude.{◌≡◌, Ok};
+ghost use Rattle.std.specs.Prelude.{◌≡◌, Ok, OnOk};
 ghost use Rattle.letters.specs.Refusals.{told};
 ghost use Rattle.letters.specs.Letters.{parts_of};
 ghost use Rattle.carriers.specs.Meaning.{DrawLeaves, PutLeaves, draw_answer, put_answer};
@@ -56,6 +56,8 @@ impl<C: Carrier, D: Carrier<Body = C::Body>> Carrier for Pair<C, D> {
 
     ghost lawful = { λ p. lawful_both (C.Carrier.meaning p.first) (D.Carrier.meaning p.second) (C.Carrier.lawful p.first) (D.Carrier.lawful p.second) };
 
+    ghost puts = { λ p m after. C.Carrier.puts p.first m after.first × D.Carrier.puts p.second m after.second };
+
     fn seats(&self) -> u8 {
         self.seats
     }
@@ -72,6 +74,7 @@ impl<C: Carrier, D: Carrier<Body = C::Body>> Carrier for Pair<C, D> {
     fn put(&mut self, letter: &Letter<C::Body>) -> Result<(), Refusal>
         ensures answer { told (λ u. u) result ≡ put_answer (both (C.Carrier.meaning self.old.first) (D.Carrier.meaning self.old.second)) letter.now.poster }
         ensures leaves { PutLeaves result (both (C.Carrier.meaning self.old.first) (D.Carrier.meaning self.old.second)) letter.now.poster letter.now (both (C.Carrier.meaning self.new.first) (D.Carrier.meaning self.new.second)) }
+        ensures once { OnOk result (C.Carrier.puts self.old.first letter.now self.new.first × D.Carrier.puts self.old.second letter.now self.new.second) }
         ensures first { PutLeaves result (C.Carrier.meaning self.old.first) letter.now.poster letter.now (C.Carrier.meaning self.new.first) }
         ensures second { PutLeaves result (D.Carrier.meaning self.old.second) letter.now.poster letter.now (D.Carrier.meaning self.new.second) }
     {

@@ -21,7 +21,7 @@ use Rattle.rooms.specs.declared.asking.Ask.{Ask}
 use Rattle.rooms.specs.declared.asking.Declined.{Declined}
 use Rattle.rooms.specs.declared.docket.Docket.{Docket}
 use Rattle.rooms.specs.Asked.{answer_as, brought, move_of, returned, to_return}
-use Rattle.rooms.specs.Calls.{post_room}
+use Rattle.rooms.specs.Calls.{Carried, post_room}
 
 -- a call made a step, and keeps the room worked
 abbrev pub Makes : {B : Type 0} → Move B → Moment B → traces.Answer → Moment B → Type 0
@@ -65,18 +65,21 @@ pub show_makes : {B : Type 0} {st st' : RoomState} {logs logs' holds holds' : Li
     → Makes (moves.Show s) (moment st logs holds c) (shows r) (moment st' logs' holds' c)
 show_makes s r answer room table hold = makes (record { answers = ap shows answer; room = room; logs = table; holds = hold; carrier = refl })
 
-module _ {B : Type 0} (w w' : Moment B) where
-  -- the same of a step with a docket in hand: the docket that was brought comes back by a no, and none otherwise
+module _ {B C : Type 0} (puts : C → Letter B → C → Type 0) (w w' : Moment B) (c c' : C) where
+  -- the same of a step with a docket in hand: the docket that was brought comes back by a no, and none otherwise; and of what
+  -- became of the carrier itself
   abbrev pub MakesAsked : Ask B → Result Answer Declined → Type 0
   MakesAsked ask r = record {
     step : Step (move_of ask) w (answer_as r) w';
     works : WorksOn (move_of ask) w (answer_as r) w';
     docket : returned r ≡ to_return (brought ask) (answer_as r);
+    carrier : Carried puts (move_of ask) w c c';
   }
 
   asked_as : (ask is : Ask B) (r : Result Answer Declined) → is ≡ ask → Makes (move_of is) w (answer_as r) w' → returned r ≡ to_return (brought is) (answer_as r)
-      → MakesAsked ask r
-  asked_as ask is r e made back = subst (λ a. MakesAsked a r) e (record { step = made.step; works = made.works; docket = back })
+      → Carried puts (move_of is) w c c' → MakesAsked ask r
+  asked_as ask is r e made back carried =
+      subst (λ a. MakesAsked a r) e (record { step = made.step; works = made.works; docket = back; carrier = carried })
 
   none_back : (a : Answer) (b : Option Docket) → None ≡ to_return b (answer_as (Ok a))
   none_back (answers.Docket d) b = refl
@@ -85,10 +88,12 @@ module _ {B : Type 0} (w w' : Moment B) where
   none_back (answers.Shown id) b = refl
 
   -- where the step is made, and where it is refused
-  pub made : (ask is : Ask B) (a : Answer) → is ≡ ask → Makes (move_of is) w (answer_as (Ok a)) w' → MakesAsked ask (Ok a)
-  made ask is a e step = asked_as ask is (Ok a) e step (none_back a (brought is))
+  pub made : (ask is : Ask B) (a : Answer) → is ≡ ask → Makes (move_of is) w (answer_as (Ok a)) w' → Carried puts (move_of is) w c c'
+      → MakesAsked ask (Ok a)
+  made ask is a e step carried = asked_as ask is (Ok a) e step (none_back a (brought is)) carried
 
   pub declined : (ask is : Ask B) (r : Result Answer Declined) (d : Declined) → is ≡ ask → IsErrAnd r (λ x. x ≡ d)
-      → Makes (move_of is) w (traces.refused (reason d.refusal)) w' → d.docket ≡ brought is → MakesAsked ask r
-  declined ask is (Ok a) d e so step back = absurd so
-  declined ask is (Err x) d e so step back = subst (λ y. MakesAsked ask (Err y)) (sym so) (asked_as ask is (Err d) e step back)
+      → Makes (move_of is) w (traces.refused (reason d.refusal)) w' → d.docket ≡ brought is → Carried puts (move_of is) w c c'
+      → MakesAsked ask r
+  declined ask is (Ok a) d e so step back carried = absurd so
+  declined ask is (Err x) d e so step back carried = subst (λ y. MakesAsked ask (Err y)) (sym so) (asked_as ask is (Err d) e step back carried)

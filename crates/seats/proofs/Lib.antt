@@ -1,4 +1,5 @@
 pub mod Tables
+pub mod Turning
 pub mod Searches
 pub mod Readiness
 pub mod Clocks

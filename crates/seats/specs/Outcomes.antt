@@ -134,6 +134,13 @@ module _ {B : Type 0} where
   PutOf c (Ok m) (Err why) c' = c' ≡ c
   PutOf c (Err why) answer c' = c' ≡ c
 
+  -- and on the carrier itself, C, of which `puts` says what one put does: one put of the docket's letter; where there is none
+  -- to put, nothing
+  abbrev pub PutsOnce : {C : Type 0} → (C → Letter B → C → Type 0) → Result (Letter B) Reason → Result (Unit {0}) Reason → C → C → Type 0
+  PutsOnce puts (Ok m) (Ok done) c c' = puts c m c'
+  PutsOnce puts (Ok m) (Err why) c c' = Unit {0}
+  PutsOnce puts (Err why) answer c c' = c' ≡ c
+
   -- Take. How a letter that is drawn is taken.
   abbrev pub is_stray : RoomState → ℕ → Letter B → Bool
   is_stray st s m =

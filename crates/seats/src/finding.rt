@@ -1,5 +1,6 @@
 // Finding a letter in a part of a table.
 ghost use Rattle.std.specs.Prelude.{◌≡◌};
+ghost use Rattle.std.specs.Option.{option_map};
 ghost use Rattle.letters.specs.Order.{ready};
 ghost use Rattle.seats.specs.Outcomes.{first, is_called};
 ghost use Rattle.seats.specs.Scans.{due};
@@ -13,13 +14,13 @@ pub fn find_named<B: Copy>(
     letters: &[Letter<B>],
     poster: u8,
     number: u16,
-) -> Option<(usize, Letter<B>)>
-    ensures { result ≡ first (is_called poster number) 0 letters.now }
+) -> Option<(usize, &Letter<B>)>
+    ensures { option_map (λ p. (p.0, p.1.now)) result ≡ first (is_called poster number) 0 letters.now }
 {
-    // No `copied` before the search: it would copy each letter that is looked at.
+    // No letter is copied: not those that are looked at, and not the one that is found.
     for (at, letter) in letters.iter().enumerate() {
         if is_named(letter, poster, number) {
-            return Some((at, *letter));
+            return Some((at, letter));
         }
     }
     None
@@ -34,14 +35,14 @@ fn is_named<B: Copy>(letter: &Letter<B>, poster: u8, number: u16) -> bool
 
 // The first letter that a seat with this clock may show, in order of arrival, with its place; the room has `count` seats
 // and the quota `quota`.
-pub fn first_ready<B: Copy>(
-    hold: &[Letter<B>],
+pub fn first_ready<'h, B: Copy>(
+    hold: &'h [Letter<B>],
     count: u8,
     quota: u16,
     seat: u8,
     clock: &Stamp,
-) -> Option<(usize, Letter<B>)>
-    ensures { result ≡ first (ready count quota seat clock.now) 0 hold.now }
+) -> Option<(usize, &'h Letter<B>)>
+    ensures { option_map (λ p. (p.0, p.1.now)) result ≡ first (ready count quota seat clock.now) 0 hold.now }
 {
     'arrivals: for (at, letter) in hold.iter().enumerate() {
         if !is_due(letter, count, quota, seat, clock) {
@@ -54,7 +55,7 @@ pub fn first_ready<B: Copy>(
                 continue 'arrivals;
             }
         }
-        return Some((at, *letter));
+        return Some((at, letter));
     }
     None
 }

@@ -27,5 +27,9 @@ pub fn close_up<T: Copy>(table: &mut [T], at: usize, behind: usize)
     if behind >= table.len() || at >= table.len() - behind {
         return;
     }
-    table.copy_within(at + 1..at + 1 + behind, at);
+    // A turn by one moves whole runs of memory, where `copy_within` goes element by element. The last place keeps what it has.
+    let moving = &mut table[at..at + behind + 1];
+    let last = moving[behind];
+    moving.rotate_left(1);
+    moving[behind] = last;
 }

@@ -1,5 +1,5 @@
 // Making a spool, and a spool as a carrier.
-ghost use Rattle.std.specs.Prelude.{◌≡◌, ◌<◌, true, length, Ok, slice_get};
+ghost use Rattle.std.specs.Prelude.{◌≡◌, ◌<◌, true, length, Ok, OnOk, slice_get};
 ghost use Rattle.letters.specs.Letters.{parts_of};
 ghost use Rattle.letters.specs.Refusals.{told};
 ghost use Rattle.carriers.specs.Appending.{Appends};
@@ -108,6 +108,8 @@ impl<'a, B: Stored> Carrier for Spool<'a, B> {
 
     ghost lawful = { λ s. lawful_spool B.form B.blank s };
 
+    ghost puts = { λ s m after. Appends (spool_of B.form B.blank s) m.poster m (spool_of B.form B.blank after) };
+
     fn seats(&self) -> u8 {
         self.seats
     }
@@ -127,7 +129,7 @@ impl<'a, B: Stored> Carrier for Spool<'a, B> {
     fn put(&mut self, letter: &Letter<B>) -> Result<(), Refusal>
         ensures answer { told (λ u. u) result ≡ put_answer (spool_of B.form B.blank self.old) letter.now.poster }
         ensures leaves { PutLeaves result (spool_of B.form B.blank self.old) letter.now.poster letter.now (spool_of B.form B.blank self.new) }
-        ensures exact { Appends result (spool_of B.form B.blank self.old) letter.now.poster letter.now (spool_of B.form B.blank self.new) }
+        ensures once { OnOk result (Appends (spool_of B.form B.blank self.old) letter.now.poster letter.now (spool_of B.form B.blank self.new)) }
         ensures row { AddsRow B.form result self.old letter.now self.new }
         ensures long { length self.new.tape.bytes.now ≡ length self.old.tape.bytes.now }
         ensures kept { Kept result self.old.tape.bytes.now self.new.tape.bytes.now }

@@ -1,5 +1,5 @@
 // Making lines, and lines as a carrier.
-ghost use Rattle.std.specs.Prelude.{◌≡◌, ℕ, ◌+◌, ◌<◌, [], ◌∷◌, ◌++◌, length, Ok, slice_index, slice_index_or, slice_set};
+ghost use Rattle.std.specs.Prelude.{◌≡◌, ℕ, ◌+◌, ◌<◌, [], ◌∷◌, ◌++◌, length, Ok, OnOk, slice_index, slice_index_or, slice_set};
 ghost use Rattle.letters.specs.Letters.{parts_of};
 ghost use Rattle.letters.specs.Refusals.{told};
 ghost use Rattle.carriers.specs.Meaning.{DrawLeaves, Drawn, Empty, Kept, PutLeaves, draw_answer, put_answer};
@@ -93,6 +93,8 @@ impl<'a, B: Body> Carrier for Lines<'a, B> {
 
     ghost lawful = { λ l. lawful_lines l };
 
+    ghost puts = { λ l m after. Appends (lines_of l) m.poster m (lines_of after) };
+
     fn seats(&self) -> u8 {
         self.seats
     }
@@ -113,7 +115,7 @@ impl<'a, B: Body> Carrier for Lines<'a, B> {
     fn put(&mut self, letter: &Letter<B>) -> Result<(), Refusal>
         ensures answer { told (λ u. u) result ≡ put_answer (lines_of self.old) letter.now.poster }
         ensures leaves { PutLeaves result (lines_of self.old) letter.now.poster letter.now (lines_of self.new) }
-        ensures exact { Appends result (lines_of self.old) letter.now.poster letter.now (lines_of self.new) }
+        ensures once { OnOk result (Appends (lines_of self.old) letter.now.poster letter.now (lines_of self.new)) }
         ensures size { self.new.size ≡ self.old.size }
         ensures kept { Kept result self.old.places.now self.new.places.now }
     {

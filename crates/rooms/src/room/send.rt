@@ -2,7 +2,7 @@
 ghost use Rattle.std.specs.Prelude.{◌≡◌, length};
 ghost use Rattle.letters.specs.Refusals.{told};
 ghost use Rattle.seats.specs.declared.seat.DocketEvent.TheVariants.{Send};
-ghost use Rattle.seats.specs.Outcomes.{PutOf, carrier_check, docket_room, send_answer, send_letter};
+ghost use Rattle.seats.specs.Outcomes.{PutOf, PutsOnce, carrier_check, docket_room, send_answer, send_letter};
 ghost use Rattle.rooms.specs.States.{ComesBack, slip, spent, state};
 
 use crate::docket::{Docket, Returned};
@@ -28,6 +28,7 @@ impl Room {
         ensures docket { ComesBack docket result }
         ensures room { state self.new ≡ docket_room (state self.old) docket.seat Send (send_answer (state self.old) logs.now (length holds.now) (C.Carrier.meaning carrier.old) (slip docket)) }
         ensures carrier { PutOf (C.Carrier.meaning carrier.old) (send_letter (state self.old) logs.now (length holds.now) (C.Carrier.meaning carrier.old).seats (slip docket)) (send_answer (state self.old) logs.now (length holds.now) (C.Carrier.meaning carrier.old) (slip docket)) (C.Carrier.meaning carrier.new) }
+        ensures once { PutsOnce C.Carrier.puts (send_letter (state self.old) logs.now (length holds.now) (C.Carrier.meaning carrier.old).seats (slip docket)) (send_answer (state self.old) logs.now (length holds.now) (C.Carrier.meaning carrier.old) (slip docket)) carrier.old carrier.new }
     {
         match self.put_letter(logs, holds, carrier, &docket) {
             Ok(()) => {
@@ -48,20 +49,21 @@ impl Room {
     ) -> Result<(), Refusal>
         ensures answer { told (λ u. u) result ≡ send_answer (state self.now) logs.now (length holds.now) (C.Carrier.meaning carrier.old) (slip docket.now) }
         ensures carrier { PutOf (C.Carrier.meaning carrier.old) (send_letter (state self.now) logs.now (length holds.now) (C.Carrier.meaning carrier.old).seats (slip docket.now)) (send_answer (state self.now) logs.now (length holds.now) (C.Carrier.meaning carrier.old) (slip docket.now)) (C.Carrier.meaning carrier.new) }
+        ensures once { PutsOnce C.Carrier.puts (send_letter (state self.now) logs.now (length holds.now) (C.Carrier.meaning carrier.old).seats (slip docket.now)) (send_answer (state self.now) logs.now (length holds.now) (C.Carrier.meaning carrier.old) (slip docket.now)) carrier.old carrier.new }
     {
         let letter = self.letter_to_send(logs, holds.len(), carrier.seats(), docket)?;
-        carrier.put(&letter)
+        carrier.put(letter)
     }
 
     // The letter that a docket is for.
-    fn letter_to_send<B: Body>(
+    fn letter_to_send<'t, B: Body>(
         &self,
-        logs: &[Letter<B>],
+        logs: &'t [Letter<B>],
         holds: usize,
         seats: u8,
         docket: &Docket,
-    ) -> Result<Letter<B>, Refusal>
-        ensures { told (λ m. m) result ≡ send_letter (state self.now) logs.now holds seats (slip docket.now) }
+    ) -> Result<&'t Letter<B>, Refusal>
+        ensures { told (λ m. m.now) result ≡ send_letter (state self.now) logs.now holds seats (slip docket.now) }
     {
         self.may_carry(logs.len(), holds, seats)?;
         if !self.knows(docket) {

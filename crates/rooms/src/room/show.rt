@@ -35,11 +35,12 @@ impl Room {
             return Err(Refusal::NoneReady);
         };
         let behind = viewer.held as usize - at - 1;
-        put(logs, self.foot(seat, &viewer), letter);
-        close_up(holds, self.start(seat) + at, behind);
+        put(logs, self.foot(seat, &viewer), *letter);
         viewer.set_clock(letter.poster(), letter.number());
         viewer.release();
+        let id = letter.id();
+        close_up(holds, self.start(seat) + at, behind);
         self.tell(seat, viewer);
-        Ok(letter.id())
+        Ok(id)
     }
 }

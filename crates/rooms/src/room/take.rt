@@ -2,8 +2,8 @@
 ghost use Rattle.std.specs.Prelude.{◌≡◌, ◌<◌, length};
 ghost use Rattle.letters.specs.Letters.{letter_name};
 ghost use Rattle.letters.specs.Refusals.{told};
-ghost use Rattle.carriers.specs.Meaning.{draw_answer};
-ghost use Rattle.seats.specs.Outcomes.{Take, take_check, taken_as, taken_holds, taken_room, taking};
+ghost use Rattle.carriers.specs.Meaning.{Kept, draw_answer};
+ghost use Rattle.seats.specs.Outcomes.{Take, carrier_check, take_check, taken_as, taken_holds, taken_room, taking};
 ghost use Rattle.rooms.specs.Calls.{Draws};
 ghost use Rattle.rooms.specs.States.{state};
 
@@ -48,7 +48,8 @@ impl Room {
         seat: u8,
         place: u32,
     ) -> Result<Taken, Refusal>
-        ensures { Take (take_check (state self.old) (length logs.now) (length holds.old) (C.Carrier.meaning carrier.old) seat place) (state self.old) holds.old (C.Carrier.meaning carrier.old) seat place (told taken_as result) (state self.new) holds.new (C.Carrier.meaning carrier.new) }
+        ensures take { Take (take_check (state self.old) (length logs.now) (length holds.old) (C.Carrier.meaning carrier.old) seat place) (state self.old) holds.old (C.Carrier.meaning carrier.old) seat place (told taken_as result) (state self.new) holds.new (C.Carrier.meaning carrier.new) }
+        ensures untouched { Kept (carrier_check (state self.old) (length logs.now) (length holds.old) (C.Carrier.meaning carrier.old).seats) carrier.old carrier.new }
     {
         self.may_carry(logs.len(), holds.len(), carrier.seats())?;
         let spare = holds[0];

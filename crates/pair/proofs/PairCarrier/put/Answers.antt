@@ -1,5 +1,6 @@
 use Rattle.std.proofs.Common.{◌≡◌, ◌<◌, true, sym, ap, ◌∙◌, arith}
-use Rattle.pair.proofs.Pairs.{put_joined}
+use Rattle.carriers.proofs.Decisions.{put_ok}
+use Rattle.pair.proofs.Pairs.{once_both, put_joined}
 use Rattle.pair.proofs.PairCarrier.put.Goals as goal
 
 pub returns : goal.returns
@@ -15,4 +16,10 @@ returns g c =
     let fits₁ : m.fits c.args.letter.now.poster ≡ true = ap m.fits (sym is) ∙ sym c.fits.ensures ∙ c.if-not-fits.false in
     let fits₂ : n.fits c.args.letter.now.poster ≡ true = ap n.fits (sym is) ∙ sym c.fits-else-not-fits.ensures ∙ c.if-not-fits-2.false in
     let both = put_joined m n _ _ c.args.letter.now.poster c.args.letter.now _ _ level (omega arith) fits₁ fits₂ one.answer one.leaves two.answer two.leaves in
-    record { answer = both.0; leaves = both.1; first = both.2; second = two.leaves }
+    record {
+      answer = both.0;
+      leaves = both.1;
+      once = once_both _ _ _ _ (one.answer ∙ put_ok m c.args.letter.now.poster (omega arith) fits₁) one.once two.once;
+      first = both.2;
+      second = two.leaves;
+    }

@@ -1,11 +1,19 @@
-use Rattle.std.proofs.Common.{length, Ok, ap, ◌∙◌}
+use Rattle.std.proofs.Common.{◌≡◌, length, Ok, ap, ◌∙◌, subst}
+use Rattle.carriers.specs.Meaning.{Kept}
 use Rattle.seats.specs.Outcomes.{carrier_check, taken_as}
 use Rattle.rooms.specs.States.{state}
 use Rattle.rooms.proofs.Taking.{took}
 use Rattle.rooms.proofs.room.Room.take.Goals as goal
 
-pub returns : goal.returns
-returns g c =
+pub returns-clause-untouched : goal.returns-clause-untouched
+returns-clause-untouched g c =
+    let st = state c.args.self.now in
+    let can : Ok tt ≡ carrier_check st (length c.args.logs.now) (length c.args.holds.now) (g.C.Carrier.meaning c.args.carrier.now).seats =
+    c.in_ok-may_carry.ensures ∙ ap (carrier_check st (length c.args.logs.now) (length c.args.holds.now)) c.seats.ensures in
+    subst (λ k. Kept k c.args.carrier.now c.draw_letter.new.carrier) can tt
+
+pub returns-clause-take : goal.returns-clause-take
+returns-clause-take g c =
     let drew = c.in_ok-letter.ensures in
     took (state c.args.self.now) _ c.args.holds.now (g.C.Carrier.meaning c.args.carrier.now) c.args.seat c.args.place (Ok (taken_as c.keep.result)) _ _ _
     (c.in_ok-may_carry.ensures ∙ ap (carrier_check (state c.args.self.now) (length c.args.logs.now) (length c.args.holds.now)) c.seats.ensures) drew.answer (record {

@@ -58,7 +58,7 @@ returns-then-not-is_done g c =
     record {
       answer = search rules;
       leaves = put_appended m (spool_meaning read s.seats (s.rows + 1) a) x.poster x refl exact;
-      exact = exact;
+      once = exact;
       row = (
         sym (ap (λ n. cond (eqb (ones n) 0) s.rows (s.rows + 1)) (sym mask_is) ∙ cond-false _ _ _ (sym c.is_done.ensures ∙ c.if-not-is_done.true)),
         λ r l. kept_rows mid a s.rows c.set_mask.ensures.only r (omega arith) ∙ kept_rows b mid s.rows c.write.ensures.only r (omega arith),
@@ -86,7 +86,7 @@ returns-else-not-is_done g c =
     record {
       answer = search rules;
       leaves = put_appended m m x.poster x refl exact;
-      exact = exact;
+      once = exact;
       row = (grind (arith, common_steps), λ r l. refl, λ r low high. absurd (omega arith));
       long = refl;
       kept = tt;

@@ -39,7 +39,7 @@ returns-clause-leaves g c =
     sent_all c.args.self.now c.args.letter.now c.loop-other.other c.loop-other.self c.loop-other.invariant
     (omega (arith, c.loop-other.auto.other-end, c.loop-other-test.false))
 
-pub returns-clause-exact : goal.returns-clause-exact
-returns-clause-exact g c =
+pub returns-clause-once : goal.returns-clause-once
+returns-clause-once g c =
     sent_exact c.args.self.now c.args.letter.now c.loop-other.other c.loop-other.self c.loop-other.invariant
     (omega (arith, c.loop-other.auto.other-end, c.loop-other-test.false))
