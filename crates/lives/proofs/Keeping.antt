@@ -18,7 +18,7 @@ use Rattle.seats.specs.Seats.{log_length}
 use Rattle.lives.specs.Traces.{Posting, Trace, posting, postings}
 use Rattle.lives.specs.Worked.{Moment}
 use Rattle.lives.specs.Keeps.{Agree, AlwaysKeeps, Complete, Genuine, InOrder, Keeps, Settled, hold_at, log_at}
-use Rattle.lives.proofs.Agreeing.{agree}
+use Rattle.lives.proofs.Agreeing.{agree, same_named}
 use Rattle.seats.proofs.Clocks.{log_fits, row_end}
 use Rattle.lives.proofs.Cut.{cut_in, cut_one}
 use Rattle.lives.proofs.Going.{lives}
@@ -109,6 +109,27 @@ module _ {B : Type 0} (trace : Trace B) (w : Moment B) (life : Lives trace w) wh
         stands = in_eq (in_log m.poster g.seat) g.stands;
       }
 
+  -- posted letters of one name are equal
+  one_letter : (m k : Letter B) → m ∈ posted_letters h → k ∈ posted_letters h → letter_name m ≡ letter_name k → m ≡ k
+  one_letter m k i j e = order_for_sheets.equal N Q (view w) h life.run m k i j (same_named m k e)
+
+  named_kept : (i : Name) (body other : B) → posting i body ∈ postings trace → posting i other ∈ postings trace → body ≡ other
+  named_kept i body other p q =
+      let o = of_map given _ (posted_letters h) (in_eq (sym life.postings_are) p) in
+      let o' = of_map given _ (posted_letters h) (in_eq (sym life.postings_are) q) in
+      let name = λ (x : Posting B). x.name in
+      let said = λ (x : Posting B). x.body in
+      ap said o.is
+      ∙ ap (λ (m : Letter B). m.body) (one_letter o.one o'.one o.inside o'.inside (sym (ap name o.is) ∙ ap name o'.is))
+      ∙ sym (ap said o'.is)
+
+  posted_there : (s : ℕ) → s < N → (m : Letter B) → m ∈ log_at w s → m ∈ posted_letters h
+  posted_there s lt m i =
+      among_posted m.poster m h ((causal_order.genuine N Q (view w) h life.run).log s m (in_eq (sym (in_log s lt)) i)).made
+
+  alike_kept : (s t : ℕ) → s < N → t < N → (m k : Letter B) → m ∈ log_at w s → k ∈ log_at w t → letter_name m ≡ letter_name k → m ≡ k
+  alike_kept s t ls lt m k i j e = one_letter m k (posted_there s ls m i) (posted_there t lt k j) e
+
   hold_size : (s : ℕ) → s < N → length (hold_at w s) ≡ (seat_at st s).held
   hold_size s lt = length_part w.holds (start st s) (seat_at st s).held
       (omega (arith, life.holds, row_end st life.fit s (seat_at st s).held lt (life.fit.placed s)))
@@ -162,6 +183,8 @@ module _ {B : Type 0} (trace : Trace B) (w : Moment B) (life : Lives trace w) wh
   all_kept kind laws = record {
     in_order = order_kept;
     genuine = genuine_kept;
+    named = named_kept;
+    alike = alike_kept;
     complete = delivery_kept;
     sheets = sheets_kept kind laws;
     beginnings = beginnings_kept kind laws;

@@ -72,6 +72,10 @@ module _ {M B : Type 0} (kind : Kind M B) where
     -- causal order
     pub in_order : (s : ℕ) → s < w.room.count → InOrder trace s (log_at w s)
     pub genuine : (s : ℕ) → s < w.room.count → (m : Letter B) → m ∈ log_at w s → Genuine trace w m
+    -- no name was posted with two bodies, and letters of one name are equal in every part, whatever logs they stand in
+    pub named : (i : Name) (body other : B) → posting i body ∈ postings trace → posting i other ∈ postings trace → body ≡ other
+    pub alike : (s t : ℕ) → s < w.room.count → t < w.room.count → (m k : Letter B) → m ∈ log_at w s → k ∈ log_at w t
+        → letter_name m ≡ letter_name k → m ≡ k
     -- complete delivery
     pub complete : (s : ℕ) → s < w.room.count → Settled w s → Complete trace w s
     -- convergence, of whole logs and of any beginnings of them

@@ -51,7 +51,7 @@ pub fn first_ready<'h, B: Copy>(
         let poster = letter.poster() as usize;
         let known = letter.stamp().entries.iter().zip(&clock.entries);
         for (other, (stamped, shown)) in known.enumerate() {
-            if other != poster && stamped > shown {
+            if stamped > shown && other != poster {
                 continue 'arrivals;
             }
         }
@@ -66,9 +66,9 @@ fn is_due<B: Copy>(letter: &Letter<B>, count: u8, quota: u16, seat: u8, clock: &
 {
     let poster = letter.poster();
     let number = letter.number();
-    // A letter's number is not 0.
-    poster < count
+    // A letter's number is not 0. What most letters of a hold fail is asked first.
+    number - 1 == clock.entries[poster as usize]
+        && poster < count
         && poster != seat
         && number <= quota
-        && number - 1 == clock.entries[poster as usize]
 }

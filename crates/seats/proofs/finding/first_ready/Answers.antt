@@ -2,7 +2,7 @@ use Rattle.std.proofs.Common.{◌≡◌, ◌≤◌, [], ◌∷◌, length, sym, 
 use Rattle.letters.specs.Letters.{entry_at}
 use Rattle.seats.proofs.Searches.{first_on, first_found}
 use Rattle.seats.proofs.Readiness.{pair_turn, pairs_end, known_more, too_early, is_ready}
-use Rattle.seats.proofs.finding.first_ready.Goals.{else-other-poster-via-then-other-poster+else-stamped-shown, else-other-poster-via-else-other-poster}
+use Rattle.seats.proofs.finding.first_ready.Goals.{else-stamped-shown-via-then-stamped-shown+else-other-poster, else-stamped-shown-via-else-stamped-shown}
 use Rattle.seats.proofs.finding.first_ready.Goals as goal
 
 pub loop-other-preserved : goal.loop-other-preserved
@@ -14,9 +14,9 @@ loop-other-preserved g c =
     pair_turn m.stamp clock m.sized (omega arith) c.into_iter-other-iterator.result (cc) (cc) (cc)
     c.loop-other.yielded c.loop-other.other-iterator c.loop-other.yielded_by c.next.result c.next.new.self c.next.ensures.steps _ c.in-Some.is in
     let known : ¬ (k ≡ m.poster) → entry_at m.stamp k ≤ entry_at clock k =
-    λ other. elim c.else-other-poster.branch [
-      | else-other-poster-via-then-other-poster+else-stamped-shown w ↦ omega (arith, pair.stamped, pair.shown, w.if-stamped-shown.false)
-      | else-other-poster-via-else-other-poster w ↦ absurd (other (omega (arith, pair.seat, c.poster-poster.ensures, w.if-other-poster.false)))
+    λ other. elim c.else-stamped-shown.branch [
+      | else-stamped-shown-via-then-stamped-shown+else-other-poster w ↦ absurd (other (omega (arith, pair.seat, c.poster-poster.ensures, w.if-other-poster.false)))
+      | else-stamped-shown-via-else-stamped-shown w ↦ omega (arith, pair.stamped, pair.shown, w.if-stamped-shown.false)
     ] in
     λ p lt. known_more c.args.count c.args.quota c.args.seat clock m k c.loop-other.invariant known p
     (omega (arith, lt, length-append c.loop-other.yielded ((c.in-Some.other, (c.in-Some.stamped, c.in-Some.shown)) ∷ [])))
