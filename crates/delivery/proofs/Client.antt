@@ -63,17 +63,25 @@ module _ {B : Type 0} (m : Meaning (Letter B)) (law : Lawful m) (none : Empty m)
       subst Ends (sym d) (says ∙ no_seat, (draw_refused mid after parts_of seat 0 lent filled r (plain 8) (says ∙ no_seat) left).1))
       (cases_lt seat m.seats)
 
-  -- on a carrier with nothing waiting, a letter that is put is the first that another seat draws
-  pub first_drawn : Passes (put_answer m x.poster) m x seat lent r after filled → Ends (first_answer m.seats x.poster seat)
+-- on a carrier with nothing waiting, a letter that is put is the first that another seat draws
+module _ {B C : Type 0} (meaning : C → Meaning (Letter B)) (puts : C → Letter B → C → Type 0) (c : C) (law : Lawful (meaning c)) (none : Empty (meaning c))
+    (x : Letter B) (seat : ℕ) (lent filled : Parts B) (r : Result (Unit {0}) Refusal) (after : C) where
+  abbrev m : Meaning (Letter B)
+  m = meaning c
+
+  abbrev EndsBy : Result (Unit {0}) Reason → Type 0
+  EndsBy d = (told (λ u. u) r ≡ d) × (filled ≡ parts_by d (parts_of x) lent)
+
+  pub first_drawn : Passes meaning puts (put_answer m x.poster) c x seat lent r after filled → EndsBy (first_answer m.seats x.poster seat)
   first_drawn passes = ⊎_elim
       (λ h.
-      let p = subst (λ a. Passes a m x seat lent r after filled) (put_ok m x.poster h (law.empty_fits none x.poster h)) passes in
-      drawn p.0 h p.1 p.2 p.3)
+      let p = subst (λ a. Passes meaning puts a c x seat lent r after filled) (put_ok m x.poster h (law.empty_fits none x.poster h)) passes in
+      drawn m law none x seat lent filled r (meaning after) (meaning p.0) h p.2 p.3 p.4)
       (λ out.
       let refused : put_answer m x.poster ≡ Err (plain 8) = rw (le-ltb x.poster m.seats out) in
-      let p = subst (λ a. Passes a m x seat lent r after filled) refused passes in
+      let p = subst (λ a. Passes meaning puts a c x seat lent r after filled) refused passes in
       let d : first_answer m.seats x.poster seat ≡ Err (plain 8) = rw (le-ltb x.poster m.seats out) in
-      subst Ends (sym d) (p.0, p.2))
+      subst EndsBy (sym d) (p.0, p.2))
       (cases_lt x.poster m.seats)
 
 -- a yes asks nothing of memory

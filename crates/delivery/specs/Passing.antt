@@ -18,13 +18,15 @@ abbrev pub parts_by : {P : Type 0} → Result (Unit {0}) Reason → P → P → 
 parts_by (Ok _) new old = new
 parts_by (Err _) new old = old
 
-module _ {B : Type 0} where
-  -- By the answer of the put: where it was accepted, the seat drew the first that waited then; else nothing moved.
-  -- r, after and filled are what is answered and left in the end.
-  abbrev pub Passes : Result (Unit {0}) Reason → Meaning (Letter B) → Letter B → ℕ → Parts B → Result (Unit {0}) Refusal → Meaning (Letter B) → Parts B → Type 0
-  Passes (Ok _) m x seat lent r after filled =
-      (mid : Meaning (Letter B)) × PutOn m x.poster x mid × (told (λ u. u) r ≡ draw_answer mid seat 0) × DrawLeaves parts_of r mid seat 0 after lent filled
-  Passes (Err why) m x seat lent r after filled = (told (λ u. u) r ≡ Err why) × (after ≡ m) × (filled ≡ lent)
+-- C is the carrier: `meaning` says what it means, and `puts` what one put of it does.
+module _ {B C : Type 0} (meaning : C → Meaning (Letter B)) (puts : C → Letter B → C → Type 0) where
+  -- By the answer of the put: where it was accepted, one put led to a carrier `mid`, from which the seat drew the first that
+  -- waited there; else nothing moved. r, after and filled are what is answered and left in the end.
+  abbrev pub Passes : Result (Unit {0}) Reason → C → Letter B → ℕ → Parts B → Result (Unit {0}) Refusal → C → Parts B → Type 0
+  Passes (Ok _) c x seat lent r after filled =
+      (mid : C) × puts c x mid × PutOn (meaning c) x.poster x (meaning mid)
+      × (told (λ u. u) r ≡ draw_answer (meaning mid) seat 0) × DrawLeaves parts_of r (meaning mid) seat 0 (meaning after) lent filled
+  Passes (Err why) c x seat lent r after filled = (told (λ u. u) r ≡ Err why) × (meaning after ≡ meaning c) × (filled ≡ lent)
 
 -- what a seat answers that draws a poster's letter from a carrier on which nothing waited before
 abbrev pub first_answer : ℕ → ℕ → ℕ → Result (Unit {0}) Reason

@@ -1,12 +1,12 @@
 // Delivery: what one seat puts on a carrier, another draws.
 #![tactic(auto)]
 
-ghost use Rattle.std.specs.Prelude.{◌≡◌, length};
+ghost use Rattle.std.specs.Prelude.{◌≡◌, Ok, length, nat_lt};
 ghost use Rattle.letters.specs.Letters.{parts_of};
-ghost use Rattle.letters.specs.Refusals.{told};
+ghost use Rattle.letters.specs.Refusals.{told, unless};
 ghost use Rattle.carriers.specs.Lines.{lines_answer};
 ghost use Rattle.carriers.specs.Meaning.{Kept, put_answer};
-ghost use Rattle.delivery.specs.Passing.{Passes, delivery_answer, parts_by};
+ghost use Rattle.delivery.specs.Passing.{Passes, and_then, delivery_answer, parts_by};
 
 use carriers::carrier::Carrier;
 use carriers::lines::Lines;
@@ -22,7 +22,7 @@ pub fn put_and_draw<C: Carrier>(
     seat: u8,
     parts: &mut Parts<C::Body>,
 ) -> Result<(), Refusal>
-    ensures { Passes (put_answer (C.meaning carrier.old) letter.now.poster) (C.meaning carrier.old) letter.now seat parts.old result (C.meaning carrier.new) parts.new }
+    ensures { Passes C.meaning C.puts (put_answer (C.meaning carrier.old) letter.now.poster) carrier.old letter.now seat parts.old result carrier.new parts.new }
 {
     carrier.put(letter)?;
     carrier.draw(seat, 0, parts)
@@ -39,9 +39,12 @@ pub fn over_lines<B: Body>(
 ) -> Result<(), Refusal>
     ensures answer { told (λ u. u) result ≡ delivery_answer seats size (length places.old) letter.now.poster seat }
     ensures filled { parts.new ≡ parts_by (delivery_answer seats size (length places.old) letter.now.poster seat) (parts_of letter.now) parts.old }
-    ensures kept { Kept (lines_answer seats size (length places.old)) places.old places.new }
+    ensures kept { Kept (and_then (lines_answer seats size (length places.old)) (unless (nat_lt letter.now.poster seats) 8 (Ok tt))) places.old places.new }
 {
     Lines::check(places, seats, size)?;
+    if letter.poster() >= seats {
+        return Err(Refusal::UnknownSeat);
+    }
     let mut lines = Lines::new(places, seats, size);
     put_and_draw(&mut lines, letter, seat, parts)
 }

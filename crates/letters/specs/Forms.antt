@@ -33,6 +33,10 @@ pub record Lawful {B : Type 0} (form : Form B) : Type 0 where
   pub kind_right : (b : B) → form.has_kind (form.kind b) ≡ true
   pub length_right : (b : B) → form.has_length (form.kind b) (length (form.bytes b)) ≡ true
   pub right : (b : B) → form.wrong (form.kind b) (form.bytes b) ≡ None
+  -- and no other kind or length is: some body has it
+  pub kind_known : (kind : ℕ) → form.has_kind kind ≡ true → (b : B) × (form.kind b ≡ kind)
+  pub length_known : (kind n : ℕ) → form.has_kind kind ≡ true → form.has_length kind n ≡ true
+      → (b : B) × (form.kind b ≡ kind) × (length (form.bytes b) ≡ n)
   -- what is wrong is wrong within the space
   pub near : (kind : ℕ) (bs : List ℕ) → length bs ≤ body_space → Near (form.wrong kind bs)
   pub short : (kind n : ℕ) → form.has_length kind n ≡ true → n ≤ body_space

@@ -54,12 +54,20 @@ job_near bs =
     (near_check (nat_lt 0 (number_16 2 bs)) 2 _ (omega arith) tt)))
     (omega arith))
 
+job_length_known : (k n : ℕ) → job_form.has_kind k ≡ true → job_form.has_length k n ≡ true → (b : Job) × (2 ≡ k) × (length (job_bytes b) ≡ n)
+job_length_known k n e l = ⊎_elim
+    (λ f. (Strike (record { poster = 0; number = 1; seated = omega arith; counted = omega arith }), sym (eqb-true k 2 e), sym (eqb-true n 4 f)))
+    (λ f. (Add 0, sym (eqb-true k 2 e), sym (eqb-true n 5 f)))
+    (or_cases (n == 4) (n == 5) l)
+
 pub job_lawful : Lawful job_form
 job_lawful = record {
   back = job_back;
   kind_right = λ b. refl;
   length_right = job_length;
   right = job_right;
+  kind_known = λ k e. (Add 0, sym (eqb-true k 2 e));
+  length_known = job_length_known;
   near = λ k bs h. job_near bs;
   short = λ k. job_short;
 }

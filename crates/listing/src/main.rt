@@ -1,6 +1,9 @@
 // Lists a file of letter records, or says where it is damaged.
 #![tactic(auto)]
 
+ghost use Rattle.std.specs.Prelude.{IfOk, string_bytes};
+ghost use Rattle.listing.specs.Holding.{HeldListed};
+
 use crate::kind::Kind;
 use crate::line::{Say, add_count};
 use crate::stepping::add_next;
@@ -33,7 +36,9 @@ fn add_held<B: Say>(
     letters: &mut u64,
     parts: &mut Parts<B>,
     lines: &mut String,
-) -> Result<Result<(), Fault>, AllocError> {
+) -> Result<Result<(), Fault>, AllocError>
+    ensures { IfOk result (λ ended. HeldListed B.form B.says 64 bytes.now letters.old (string_bytes lines.old) ended letters.new (string_bytes lines.new)) }
+{
     let mut reader = Reader::new(bytes);
     for _ in 0..HELD {
         match add_next(&mut reader, *letters, parts, lines)? {
