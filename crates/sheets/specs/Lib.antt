@@ -1,6 +1,7 @@
 pub mod Pages
 pub mod Sheets
 pub mod Placing
+pub mod RowOrder
 pub mod Timelines
 pub mod OpenJobs
 pub mod JobLists

@@ -1,5 +1,5 @@
 -- Where a new row goes among rows that stand in an order. A test says whether a row stands after the new one.
-use Rattle.std.specs.Prelude.{ℕ, Bool, cond, not, List, [], ◌∷◌}
+use Rattle.std.specs.Prelude.{ℕ, Bool, true, cond, not, ◌&&◌, List, [], ◌∷◌}
 use Rattle.std.specs.List.{prefix_len}
 
 module _ {X : Type 0} (after : X → X → Bool) where
@@ -15,3 +15,13 @@ module _ {X : Type 0} (after : X → X → Bool) where
   -- how many rows stand before the first that stands after the new one
   abbrev pub place_among : List X → X → ℕ
   place_among rows new = prefix_len (stays new) rows
+
+  -- r stands after no row of the list
+  abbrev pub none_before : X → List X → Bool
+  none_before r [] = true
+  none_before r (s ∷ ss) = not (after r s) && none_before r ss
+
+  -- the rows stand in order: none stands after one that is below it
+  abbrev pub in_order : List X → Bool
+  in_order [] = true
+  in_order (r ∷ rs) = none_before r rs && in_order rs

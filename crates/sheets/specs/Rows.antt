@@ -5,7 +5,7 @@ use Rattle.std.proofs.lemmas.Bool.{cases_Bool}
 use Rattle.std.proofs.lemmas.Bool.Decides.{nat_tests}
 use Rattle.sheets.specs.declared.row.Row.{Row}
 use Rattle.sheets.specs.Placing.{placed}
-use Rattle.sheets.specs.Timelines.{row_after}
+use Rattle.sheets.specs.RowOrder.{row_after}
 
 either_first : {Y : Type 0} (s t : Bool) (x y : Y) → s ≡ not t → cond s x y ≡ cond t y x
 either_first s t x y e = grind (arith, nat_tests)

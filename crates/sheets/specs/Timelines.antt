@@ -1,5 +1,5 @@
 -- Timelines: rows by rank and poster.
-use Rattle.std.specs.Prelude.{ℕ, ◌+◌, Bool, ◌&&◌, ◌||◌, List, [], sum, ◌==◌, nat_lt}
+use Rattle.std.specs.Prelude.{ℕ, ◌+◌, List, [], sum}
 use Rattle.arrayvec.specs.ArrayVec.{array_vec_len}
 use Rattle.letters.specs.declared.letter.Letter.{Letter}
 use Rattle.letters.specs.declared.text.Text.{Text}
@@ -7,15 +7,12 @@ use Rattle.letters.specs.Letters.{number_of}
 use Rattle.sheets.specs.declared.row.Row.{Row}
 use Rattle.sheets.specs.declared.timeline.Timeline.{Timeline}
 use Rattle.sheets.specs.Placing.{placed}
+use Rattle.sheets.specs.RowOrder.{row_after}
 use Rattle.sheets.specs.Sheets.{Kind}
 
 -- a letter's row; its rank is the sum of its stamp
 abbrev pub row_of : Letter Text → Row
 row_of m = record { rank = sum m.stamp.entries; poster = m.poster; number = number_of m; text = m.body }
-
--- a row stands after a new one when its rank is greater, or its rank is equal and its poster greater
-abbrev pub row_after : Row → Row → Bool
-row_after r new = nat_lt new.rank r.rank || (r.rank == new.rank && nat_lt new.poster r.poster)
 
 -- how many letters are entered, and the rows from the top
 pub record Shown : Type 0 where

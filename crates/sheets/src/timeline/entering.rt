@@ -1,7 +1,9 @@
 // What a timeline shows, and how letters are entered there.
-ghost use Rattle.std.specs.Prelude.{◌≡◌, ◌+◌, length, refl};
+ghost use Rattle.std.specs.Prelude.{◌≡◌, ◌+◌, true, length, refl};
 ghost use Rattle.sheets.specs.Pages.{page_count};
-ghost use Rattle.sheets.specs.Timelines.{Shown, no_rows, row_after, row_of, shown_by, timeline_kind};
+ghost use Rattle.sheets.specs.Placing.{in_order};
+ghost use Rattle.sheets.specs.RowOrder.{row_after};
+ghost use Rattle.sheets.specs.Timelines.{Shown, no_rows, row_of, shown_by, timeline_kind};
 ghost use Rattle.sheets.specs.Beside.{beside_posters};
 ghost use Rattle.sheets.specs.Rows.{placed_swap};
 
@@ -47,9 +49,10 @@ impl Timeline {
         }
     }
 
-    // The rows, from the top.
+    // The rows from the top, by rank and, where ranks are equal, by poster.
     pub fn rows(&self) -> &[Row]
-        ensures { result.now ≡ (shown_by self.now).rows }
+        ensures rows { result.now ≡ (shown_by self.now).rows }
+        ensures ordered { in_order row_after result.now ≡ true }
     {
         self.rows.as_slice()
     }
@@ -93,6 +96,7 @@ impl Sheet for Timeline {
         self.rows.clear();
     }
 
+    #[tactic(auto, using(crate::proofs::Orders::rows_in_order))]
     fn enter(&mut self, letter: &Letter<Text>) -> Result<(), Refusal> {
         if self.rows.is_full() {
             return Err(Refusal::SheetFull);
