@@ -4,5 +4,6 @@ pub mod Scans
 pub mod Inserts
 pub mod Orders
 pub mod Jobs
+pub mod Closing
 pub mod Opening
 pub mod Codes

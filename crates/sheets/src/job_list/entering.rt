@@ -1,5 +1,5 @@
 // Which jobs a job list has open, and how letters are entered there.
-ghost use Rattle.std.specs.Prelude.{◌≡◌, ◌+◌, ◌<◌, ◌≤◌, true, length, refl};
+ghost use Rattle.std.specs.Prelude.{◌≡◌, ◌+◌, ◌<◌, ◌≤◌, true, length, position, refl};
 ghost use Rattle.sheets.specs.JobLists.{CodesFollow, Listed, code_in, job_list_kind, listed_by, no_jobs, open_job, with_job, without_job};
 ghost use Rattle.arrayvec.specs.ArrayVec.{array_vec_len};
 ghost use Rattle.sheets.specs.OpenJobs.{job_after, job_is, rising};
@@ -63,13 +63,23 @@ impl JobList {
             .map(|job| job.code)
     }
 
+    // The place of the job of this letter, where it is open.
+    fn place_of(&self, id: LetterId) -> Option<usize>
+        ensures { result ≡ position (λ r. job_is r id.poster id.number) (listed_by self.now).jobs }
+    {
+        self.rows.iter().position(|job| job.is_of(id))
+    }
+
     // Closes the job of this letter, where it is open.
+    #[tactic(auto, using(crate::proofs::Closing::closed))]
     fn close(&mut self, id: LetterId)
         ensures counted { self.new.entered ≡ self.old.entered }
         ensures shorter { array_vec_len self.new.rows ≤ array_vec_len self.old.rows }
         ensures jobs { (listed_by self.new).jobs ≡ without_job (listed_by self.old).jobs id.poster id.number }
     {
-        self.rows.retain(|job| !job.is_of(id));
+        if let Some(at) = self.place_of(id) {
+            self.rows.remove(at);
+        }
     }
 
     // Opens a job of this letter, which replaces one that is open.
