@@ -9,6 +9,6 @@ module _ {B : Type 0} where
   abbrev pub Once : List (Letter B) → Type 0
   Once = Apart SameLetter
 
-  -- no letter covers a later one: each stands below the letters that its poster knew of (a causal order)
+  -- no letter covers a later one: each stands below the letters of the list that its poster knew of (a causal order)
   abbrev pub Ordered : List (Letter B) → Type 0
   Ordered = Apart CoversLetter

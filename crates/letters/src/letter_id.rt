@@ -4,7 +4,7 @@ ghost use Rattle.std.specs.Prelude.{◌<◌};
 mod naming;
 
 // A letter's name, written 2.5: the seat that posted it (0 to 15) and its number there, counted from 1.
-#[derive(Clone, Copy, PartialEq, Eq, PartialOrd, Ord)]
+#[derive(Clone, Copy, PartialEq, Eq)]
 pub struct LetterId {
     poster: u8,
     number: u16,

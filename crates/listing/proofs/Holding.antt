@@ -1,8 +1,9 @@
-use Rattle.std.proofs.Common.{◌≡◌, ℕ, zero, suc, ◌+◌, ◌-◌, Bool, true, false, List, [], ◌++◌, drop, Ok, Err, Result, is_err, refl, sym, ap, ◌∙◌, append_assoc}
+-- The records that are held, listed one by one: what is left comes to the same.
+use Rattle.std.proofs.Common.{◌≡◌, ℕ, suc, List, [], ◌++◌, drop, Ok, Err, sym, ap, ◌∙◌, append_assoc}
 use Rattle.std.proofs.lemmas.List.{append-nil}
 use Rattle.letters.specs.Forms.{Form}
 use Rattle.records.specs.declared.fault.Fault.{Fault}
-use Rattle.records.specs.Readers.{Found, at_end, right, wrong, found}
+use Rattle.records.specs.Readers.{at_end, right, wrong, found}
 use Rattle.records.specs.Records.{record_size}
 use Rattle.listing.specs.Lines.{step_line}
 use Rattle.listing.specs.Holding.{HeldListed, goes_on, held_count, held_fault, held_lines, is_fault, next_count}
@@ -14,16 +15,7 @@ module _ {B : Type 0} (form : Form B) (says : B → List ℕ) where
     pub count : held_count form n bs i ≡ held_count form n' bs' i'
     pub fault : held_fault form n bs ≡ held_fault form n' bs'
 
-  pub left_same : (n : ℕ) (bs : List ℕ) (count : ℕ) (lines : List ℕ) → Left n bs count lines n bs count lines
-  left_same n bs count lines = record { lines = refl; count = refl; fault = refl }
-
-  pub left_at : (n : ℕ) (bs bs' : List ℕ) (i : ℕ) (ls : List ℕ) → bs' ≡ bs → Left n bs i ls n bs' i ls
-  left_at n bs bs' i ls e = record {
-    lines = sym (ap (λ x. ls ++ held_lines form says n x i) e);
-    count = sym (ap (λ x. held_count form n x i) e);
-    fault = sym (ap (held_fault form n) e);
-  }
-
+  -- a record in which nothing is wrong is listed, and the next one follows
   pub one_right : (n₀ : ℕ) (bs₀ : List ℕ) (count₀ : ℕ) (lines₀ : List ℕ) (n : ℕ) (bs bs' : List ℕ) (count count' : ℕ) (lines lines' : List ℕ)
       → Left n₀ bs₀ count₀ lines₀ (suc n) bs count lines
       → found form bs ≡ right → lines' ≡ lines ++ step_line form says count bs (found form bs) → bs' ≡ drop record_size bs → count' ≡ next_count count
@@ -40,7 +32,7 @@ module _ {B : Type 0} (form : Form B) (says : B → List ℕ) where
         fault = l.fault ∙ ap (λ w. goes_on w (held_fault form n (drop record_size bs)) (is_fault (found form bs))) f ∙ sym (ap (held_fault form n) b);
       }
 
-  -- the end
+  -- it ends where no record is left
   pub one_end : (n₀ : ℕ) (bs₀ : List ℕ) (count₀ : ℕ) (lines₀ : List ℕ) (n : ℕ) (bs : List ℕ) (count : ℕ) (lines lines' : List ℕ)
       → Left n₀ bs₀ count₀ lines₀ (suc n) bs count lines
       → found form bs ≡ at_end → lines' ≡ lines ++ step_line form says count bs (found form bs)
@@ -54,6 +46,7 @@ module _ {B : Type 0} (form : Form B) (says : B → List ℕ) where
         fault = sym (l.fault ∙ ap (λ w. goes_on w (held_fault form n (drop record_size bs)) (is_fault w)) f);
       }
 
+  -- it ends by a fault
   pub one_wrong : (n₀ : ℕ) (bs₀ : List ℕ) (count₀ : ℕ) (lines₀ : List ℕ) (n : ℕ) (bs : List ℕ) (count : ℕ) (lines lines' : List ℕ) (byte : ℕ) (why : Fault)
       → Left n₀ bs₀ count₀ lines₀ (suc n) bs count lines
       → found form bs ≡ wrong byte → lines' ≡ lines ++ step_line form says count bs (found form bs)
@@ -68,6 +61,7 @@ module _ {B : Type 0} (form : Form B) (says : B → List ℕ) where
         fault = sym (l.fault ∙ ap (λ w. goes_on w (held_fault form n (drop record_size bs)) (is_fault w)) f);
       }
 
+  -- all that were asked for are listed
   pub none_left : (n₀ : ℕ) (bs₀ : List ℕ) (count₀ : ℕ) (lines₀ : List ℕ) (n : ℕ) (bs : List ℕ) (count : ℕ) (lines : List ℕ)
       → Left n₀ bs₀ count₀ lines₀ n bs count lines → n ≡ 0
       → HeldListed form says n₀ bs₀ count₀ lines₀ (Ok tt) count lines
