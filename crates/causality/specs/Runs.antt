@@ -2,6 +2,8 @@
 use Rattle.std.specs.Prelude.{ℕ, List, [], ◌∷◌, ◌++◌}
 use Rattle.causality.specs.History.{Event, History}
 use Rattle.letters.specs.declared.letter.Letter.{Letter}
+use Rattle.letters.specs.Letters.{letter_name}
+use Rattle.letters.specs.Names.{Name}
 use Rattle.causality.specs.Worlds.{Box, World, Opened}
 use Rattle.causality.specs.Steps.{Outcome, stray, repeat, held, Step, refuses, posts, sends, parks, collects, takes, shows}
 
@@ -15,34 +17,34 @@ pub data Run {B : Type 0} (N Q : ℕ) : World B → History (Letter B) → Type 
 abbrev pub AtAllTimes : {B : Type 0} → (ℕ → ℕ → World B → History (Letter B) → Type 0) → Type 0
 AtAllTimes {B} P = (N Q : ℕ) (w : World B) (h : History (Letter B)) → Run N Q w h → P N Q w h
 
--- what a step was, a take by what it answers
+-- what a step was: at which seat and with which letter, a take by what it answers
 pub data Deed : Type 0 where
   a_refusal : Deed
-  a_post : Deed
-  a_send : Deed
-  a_park : Deed
-  a_collect : Deed
-  a_stray : Deed
-  a_repeat : Deed
-  a_hold : Deed
-  a_show : Deed
+  a_post : ℕ → Name → Deed
+  a_send : ℕ → Name → Deed
+  a_park : ℕ → Deed
+  a_collect : ℕ → Deed
+  a_stray : ℕ → Name → Deed
+  a_repeat : ℕ → Name → Deed
+  a_hold : ℕ → Name → Deed
+  a_show : ℕ → Name → Deed
 
 module _ {B : Type 0} {N Q : ℕ} where
   -- what a take was
   abbrev pub taken : {s : ℕ} {m : Letter B} {b b' : Box B} → Outcome N Q s m b b' → Deed
-  taken (stray why same) = a_stray
-  taken (repeat placed why same) = a_repeat
-  taken (held placed fresh longer) = a_hold
+  taken {s} {m} (stray why same) = a_stray s (letter_name m)
+  taken {s} {m} (repeat placed why same) = a_repeat s (letter_name m)
+  taken {s} {m} (held placed fresh longer) = a_hold s (letter_name m)
 
   -- what a step was
   abbrev pub deed : {w w' : World B} {new : List (Event (Letter B))} → Step N Q w w' new → Deed
   deed (refuses x) = a_refusal
-  deed (posts x) = a_post
-  deed (sends x) = a_send
-  deed (parks x) = a_park
-  deed (collects x) = a_collect
+  deed (posts {s} {m} x) = a_post s (letter_name m)
+  deed (sends {s} {m} x) = a_send s (letter_name m)
+  deed (parks {s} x) = a_park s
+  deed (collects {s} x) = a_collect s
   deed (takes x) = taken x.outcome
-  deed (shows x) = a_show
+  deed (shows {s} {m} x) = a_show s (letter_name m)
 
   -- the steps of a run, the newest first
   abbrev pub deeds : {w : World B} {h : History (Letter B)} → Run N Q w h → List Deed

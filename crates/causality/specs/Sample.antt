@@ -4,6 +4,7 @@ use Rattle.letters.specs.declared.letter.Letter.{Letter}
 use Rattle.letters.specs.declared.stamp.Stamp.{Stamp}
 use Rattle.letters.specs.declared.parts.Parts.{Parts}
 use Rattle.letters.specs.Letters.{parts}
+use Rattle.letters.specs.Names.{name}
 use Rattle.causality.specs.History.{History, LedTo}
 use Rattle.causality.specs.Worlds.{World}
 use Rattle.causality.specs.Runs.{Run, Deed, deeds, a_refusal, a_post, a_send, a_park, a_collect, a_repeat, a_hold, a_show}
@@ -22,10 +23,10 @@ first_parts body = parts stamp_of_first 0 body
 -- to seat 2 before 0.1 and cannot be shown; 0.1 is taken, and again as a repeat; both are shown; seat 0 shows 1.1.
 abbrev pub sample_deeds : List Deed
 sample_deeds =
-    a_show ∷ a_hold
-    ∷ a_show ∷ a_show ∷ a_repeat ∷ a_hold ∷ a_refusal ∷ a_hold
-    ∷ a_send ∷ a_post ∷ a_repeat ∷ a_show ∷ a_hold
-    ∷ a_send ∷ a_collect ∷ a_park ∷ a_post ∷ []
+    a_show 0 (name 1 1) ∷ a_hold 0 (name 1 1)
+    ∷ a_show 2 (name 1 1) ∷ a_show 2 (name 0 1) ∷ a_repeat 2 (name 0 1) ∷ a_hold 2 (name 0 1) ∷ a_refusal ∷ a_hold 2 (name 1 1)
+    ∷ a_send 1 (name 1 1) ∷ a_post 1 (name 1 1) ∷ a_repeat 1 (name 0 1) ∷ a_show 1 (name 0 1) ∷ a_hold 1 (name 0 1)
+    ∷ a_send 0 (name 0 1) ∷ a_collect 0 ∷ a_park 0 ∷ a_post 0 (name 0 1) ∷ []
 
 -- A run brings the letter m, and a reply that it led to, to every seat, in this order; then every seat is complete.
 pub record Arrives {B : Type 0} (m : Letter B) : Type 0 where

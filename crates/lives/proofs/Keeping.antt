@@ -1,21 +1,23 @@
 -- What is kept of a room that was worked.
-use Rattle.std.proofs.Common.{◌≡◌, ℕ, ◌*◌, ◌<◌, ◌≤◌, List, [], ◌∷◌, ◌++◌, map, length, take, drop, sym, refl, ap, ◌∙◌, subst, inl, inr, append-nil, arith, take-append-drop}
+use Rattle.std.proofs.Common.{◌≡◌, ℕ, ◌*◌, ◌<◌, ◌≤◌, Bool, true, false, ◌↔◌, List, [], ◌∷◌, ◌++◌, map, length, take, drop, sym, refl, ap, ◌∙◌, subst, inl, inr, append-nil, arith, take-append-drop}
 use Rattle.letters.specs.declared.letter.Letter.{Letter}
 use Rattle.letters.specs.Letters.{letter_name}
 use Rattle.letters.specs.Names.{Name}
-use Rattle.letters.specs.Order.{Ready}
+use Rattle.letters.specs.Order.{CoversLetter, Ready, SameLetter}
 use Rattle.causality.specs.declared.docket.DocketState.TheVariants.{Clear}
 use Rattle.causality.specs.History.{Event, History, LedTo, Seen, posted, posted_letters, shown, told}
 use Rattle.letters.specs.Lists.{◌∈◌, here, there}
 use Rattle.causality.specs.Theorems as theorems
+use Rattle.causality.specs.Steps.{Stray}
 use Rattle.causality.specs.Worlds.{Box}
 use Rattle.causality.proofs.Lists.{in_as, in_eq, in_none}
 use Rattle.causality.proofs.Named.{seen_told}
-use Rattle.causality.proofs.Theorems.{causal_order, complete_delivery, order_for_sheets}
+use Rattle.causality.proofs.Theorems.{causal_order, complete_delivery, enough_places, order_for_sheets, stamps_mean_led_to}
 use Rattle.sheets.specs.Sheets.{Kind, Lawful}
+use Rattle.seats.specs.Outcomes.{is_stray}
 use Rattle.seats.specs.Rooms.{RoomState, seat_at, start}
 use Rattle.seats.specs.Seats.{log_length}
-use Rattle.lives.specs.Traces.{Posting, Trace, posting, postings}
+use Rattle.lives.specs.Traces.{Posting, Trace, events, posting, postings}
 use Rattle.lives.specs.Worked.{Moment}
 use Rattle.lives.specs.Keeps.{Agree, AlwaysKeeps, Complete, Genuine, InOrder, Keeps, Settled, hold_at, log_at}
 use Rattle.lives.proofs.Agreeing.{agree, same_named}
@@ -24,6 +26,7 @@ use Rattle.lives.proofs.Cut.{cut_in, cut_one}
 use Rattle.lives.proofs.Going.{lives}
 use Rattle.lives.proofs.Lives.{Lives, given}
 use Rattle.seats.proofs.Tables.{length_part}
+use Rattle.lives.proofs.Taking.{a_stray}
 use Rattle.lives.proofs.Views.{box_of, no_box, view}
 
 -- lists that are told by what a function makes of each element
@@ -100,14 +103,25 @@ module _ {B : Type 0} (trace : Trace B) (w : Moment B) (life : Lives trace w) wh
   was_given : (m : Letter B) → m ∈ posted_letters h → given m ∈ postings trace
   was_given m i = in_eq life.postings_are (in_map given i)
 
+  -- a letter of the run is the very one that was posted
+  genuine_in : (m : Letter B) → theorems.Genuine N (view w) h m → Genuine trace w m
+  genuine_in m g = record {
+    seat = g.seat;
+    made = was_given m (among_posted m.poster m h g.made);
+    stands = in_eq (in_log m.poster g.seat) g.stands;
+  }
+
+  posted_in : (m : Letter B) → theorems.Genuine N (view w) h m → m ∈ posted_letters h
+  posted_in m g = among_posted m.poster m h g.made
+
+  all_genuine : theorems.AllGenuine N (view w) h
+  all_genuine = causal_order.genuine N Q (view w) h life.run
+
+  logged : (s : ℕ) → s < N → (m : Letter B) → m ∈ log_at w s → theorems.Genuine N (view w) h m
+  logged s lt m i = all_genuine.log s m (in_eq (sym (in_log s lt)) i)
+
   genuine_kept : (s : ℕ) → s < N → (m : Letter B) → m ∈ log_at w s → Genuine trace w m
-  genuine_kept s lt m i =
-      let g = (causal_order.genuine N Q (view w) h life.run).log s m (in_eq (sym (in_log s lt)) i) in
-      record {
-        seat = g.seat;
-        made = was_given m (among_posted m.poster m h g.made);
-        stands = in_eq (in_log m.poster g.seat) g.stands;
-      }
+  genuine_kept s lt m i = genuine_in m (logged s lt m i)
 
   -- posted letters of one name are equal
   one_letter : (m k : Letter B) → m ∈ posted_letters h → k ∈ posted_letters h → letter_name m ≡ letter_name k → m ≡ k
@@ -123,12 +137,42 @@ module _ {B : Type 0} (trace : Trace B) (w : Moment B) (life : Lives trace w) wh
       ∙ ap (λ (m : Letter B). m.body) (one_letter o.one o'.one o.inside o'.inside (sym (ap name o.is) ∙ ap name o'.is))
       ∙ sym (ap said o'.is)
 
-  posted_there : (s : ℕ) → s < N → (m : Letter B) → m ∈ log_at w s → m ∈ posted_letters h
-  posted_there s lt m i =
-      among_posted m.poster m h ((causal_order.genuine N Q (view w) h life.run).log s m (in_eq (sym (in_log s lt)) i)).made
-
   alike_kept : (s t : ℕ) → s < N → t < N → (m k : Letter B) → m ∈ log_at w s → k ∈ log_at w t → letter_name m ≡ letter_name k → m ≡ k
-  alike_kept s t ls lt m k i j e = one_letter m k (posted_there s ls m i) (posted_there t lt k j) e
+  alike_kept s t ls lt m k i j e = one_letter m k (posted_in m (logged s ls m i)) (posted_in k (logged t lt k j)) e
+
+  in_waiting : (s : ℕ) → s < N → (view w).waiting s ≡ w.carrier.waiting s
+  in_waiting s lt = cut_in N s (w.carrier.waiting s) [] lt
+
+  held_kept : (s : ℕ) → s < N → (m : Letter B) → m ∈ hold_at w s → Genuine trace w m
+  held_kept s lt m i = genuine_in m (all_genuine.hold s m (in_eq (sym (ap (λ (b : Box B). b.hold) (in_box s lt))) i))
+
+  waiting_kept : (s : ℕ) → s < N → (m : Letter B) → m ∈ w.carrier.waiting s → Genuine trace w m
+  waiting_kept s lt m i = genuine_in m (all_genuine.waiting s m lt (in_eq (sym (in_waiting s lt)) i))
+
+  -- what waits is no stray: the hold has a place for it
+  never : (s : ℕ) → s < N → (m : Letter B) → m ∈ w.carrier.waiting s → ¬ (Stray N Q s (box_of w s) m)
+  never s lt m i =
+      let j = in_eq (sym (in_waiting s lt)) i in
+      subst (λ (b : Box B). ¬ (Stray N Q s b m)) (in_box s lt)
+      ((enough_places N Q).hold (view w) h life.run s lt m (posted_in m (all_genuine.waiting s m lt j)) (all_genuine.other s m lt j))
+
+  never_stray : (s : ℕ) → s < N → (m : Letter B) → m ∈ w.carrier.waiting s → is_stray st s m ≡ false
+  never_stray s lt m i = so (is_stray st s m) refl
+    where
+      so : (b : Bool) → is_stray st s m ≡ b → is_stray st s m ≡ false
+      so true e = absurd (never s lt m i (a_stray w life.fit s m lt life.holds e))
+      so false e = e
+
+  stamps_kept : (s t : ℕ) → s < N → t < N → (m k : Letter B) → m ∈ log_at w s → k ∈ log_at w t
+      → LedTo (events trace) (letter_name m) (letter_name k) ↔ (CoversLetter k m × ¬ (SameLetter m k))
+  stamps_kept s t ls lt m k i j =
+      let p = posted_in m (logged s ls m i) in
+      let q = posted_in k (logged t lt k j) in
+      let names = causal_order.by_name N Q (view w) h life.run m k p q in
+      let means = stamps_mean_led_to N Q (view w) h life.run m k p q in (
+        λ l. means.0 (names.1 (subst (λ (past : History Name). LedTo past (letter_name m) (letter_name k)) (sym life.events_are) l)),
+        λ c. subst (λ (past : History Name). LedTo past (letter_name m) (letter_name k)) life.events_are (names.0 (means.1 c)),
+      )
 
   hold_size : (s : ℕ) → s < N → length (hold_at w s) ≡ (seat_at st s).held
   hold_size s lt = length_part w.holds (start st s) (seat_at st s).held
@@ -188,6 +232,10 @@ module _ {B : Type 0} (trace : Trace B) (w : Moment B) (life : Lives trace w) wh
     complete = delivery_kept;
     sheets = sheets_kept kind laws;
     beginnings = beginnings_kept kind laws;
+    stamps = stamps_kept;
+    held = held_kept;
+    waiting = waiting_kept;
+    never_stray = never_stray;
     short = short_kept;
   }
 

@@ -1,15 +1,16 @@
 -- What is kept at all times of a room's life, told by its trace and by what can be seen: logs, holds, and what waits.
-use Rattle.std.specs.Prelude.{◌≡◌, ℕ, ◌*◌, ◌<◌, ◌≤◌, ◌↔◌, List, [], ◌∷◌, ◌++◌, length, take, Ok}
+use Rattle.std.specs.Prelude.{◌≡◌, ℕ, ◌*◌, ◌<◌, ◌≤◌, false, ◌↔◌, List, [], ◌∷◌, ◌++◌, length, take, Ok}
 use Rattle.letters.specs.declared.letter.Letter.{Letter}
 use Rattle.letters.specs.Letters.{letter_name}
 use Rattle.letters.specs.Names.{Name, name}
-use Rattle.letters.specs.Order.{Covers, Ready}
+use Rattle.letters.specs.Order.{Covers, CoversLetter, Ready, SameLetter}
 use Rattle.causality.specs.declared.docket.DocketState.TheVariants.{Clear}
 use Rattle.causality.specs.History.{LedTo, Seen}
 use Rattle.letters.specs.Lists.{◌∈◌}
 use Rattle.letters.specs.Logs.{Once}
 use Rattle.causality.specs.Logs.{Stands}
 use Rattle.sheets.specs.Sheets.{Kind, draw_up_outcome}
+use Rattle.seats.specs.Outcomes.{is_stray}
 use Rattle.seats.specs.Rooms.{hold_of, log_of, seat_at}
 use Rattle.seats.specs.Seats.{clock_at}
 use Rattle.lives.specs.Traces.{Trace, events, posting, postings}
@@ -81,6 +82,13 @@ module _ {M B : Type 0} (kind : Kind M B) where
     -- convergence, of whole logs and of any beginnings of them
     pub sheets : (s t : ℕ) → s < w.room.count → t < w.room.count → Agree (log_at w s) (log_at w t)
     pub beginnings : (s t : ℕ) → s < w.room.count → t < w.room.count → (i j : ℕ) → Agree (take i (log_at w s)) (take j (log_at w t))
+    -- stamps tell happens-before: of two letters in logs, one led to the other exactly when the other covers it and is not the same
+    pub stamps : (s t : ℕ) → s < w.room.count → t < w.room.count → (m k : Letter B) → m ∈ log_at w s → k ∈ log_at w t
+        → LedTo (events trace) (letter_name m) (letter_name k) ↔ (CoversLetter k m × ¬ (SameLetter m k))
+    -- what waits for a seat, or is held there, is the very letter that was posted; and what waits would not be stray
+    pub held : (s : ℕ) → s < w.room.count → (m : Letter B) → m ∈ hold_at w s → Genuine trace w m
+    pub waiting : (s : ℕ) → s < w.room.count → (m : Letter B) → m ∈ w.carrier.waiting s → Genuine trace w m
+    pub never_stray : (s : ℕ) → s < w.room.count → (m : Letter B) → m ∈ w.carrier.waiting s → is_stray w.room s m ≡ false
     -- no log outgrows its places
     pub short : (s : ℕ) → s < w.room.count → length (log_at w s) ≤ w.room.count * w.room.quota
 
