@@ -1,12 +1,12 @@
 -- The steps of the program lead on and on.
-use Rattle.std.proofs.Common.{◌≡◌, ℕ, ◌+◌, Bool, true, false, cond, List, [], ◌++◌, length, IfOk, Some, None, Ok, Err, Option, Result, ◌==◌, sym, refl, subst}
+use Rattle.std.proofs.Common.{◌≡◌, ℕ, ◌+◌, Bool, true, false, cond, List, [], ◌++◌, length, IfOk, Some, None, Ok, Err, Option, Result, ◌==◌, sym, refl, subst, append-nil}
 use Rattle.std.proofs.lemmas.Bool.{eqb-true}
 use Rattle.letters.specs.declared.job.Job.{Job}
 use Rattle.letters.specs.declared.refusal.Refusal.{Refusal}
 use Rattle.sheets.specs.Sheets.{Kind, Lawful}
 use Rattle.lives.specs.declared.moves.Move.TheVariants.{Collect, Post, Show, Take}
 use Rattle.lives.specs.Traces.{Trace}
-use Rattle.lives.specs.Worked.{Leads, Moment, further, nowhere}
+use Rattle.lives.specs.Worked.{Leads, Moment, Worked, further, nowhere}
 use Rattle.branch.specs.declared.step.Call.{Call}
 use Rattle.branch.specs.declared.step.Call.TheVariants as calls
 use Rattle.branch.specs.declared.outcome.Outcome.{Outcome}
@@ -15,7 +15,7 @@ use Rattle.branch.specs.declared.step.Step.{Step}
 use Rattle.branch.specs.Turns.{Follows, Turn, docket_calls, show_calls, take_calls}
 use Rattle.lives.proofs.Keeping.{always_keeps}
 use Rattle.lives.proofs.Tracing.{worked_more}
-use Rattle.branch.specs.Runs.{KeepsOn, Led, MadeSteps, Ran, Stepped, more, next_index, none, step_bytes}
+use Rattle.branch.specs.Runs.{KeptOn, Led, MadeSteps, Ran, Stepped, more, next_index, none, step_bytes}
 use Rattle.branch.specs.Steps.{Brought, bad, call_brought, step_brought, step_of}
 
 leads_on : {a b c : Moment Job} {t u : Trace Job} → Leads a t b → Leads b u c → Leads a (u ++ t) c
@@ -40,12 +40,12 @@ turn_led s calls.Collect w o w' turn = follows_led (docket_calls (Collect s) o) 
 turn_led s (calls.Take place) w o w' turn = follows_led (take_calls (Take s place) o) w w' turn
 turn_led s calls.Show w o w' turn = follows_led (show_calls (Show s) o) w w' turn
 
--- a room that was worked keeps the laws wherever it is led
-pub made_keeps : {M X Y : Type 0} (kind : Kind M Job) → Lawful kind → (r : Result X Y) (w w' : Moment Job) → IfOk r (λ _. Led w w') → IfOk r (λ _. KeepsOn kind w w')
-made_keeps kind laws (Ok x) w w' way = λ past was.
-    let worked = worked_more was way.led in
-    record { trace = way.trace; worked = worked; keeps = always_keeps kind laws (way.trace ++ past) w' worked }
-made_keeps kind laws (Err y) w w' way = tt
+-- a room that was opened, and then worked by what was led to, keeps what rooms keep
+pub made_keeps : {M X Y : Type 0} (kind : Kind M Job) → Lawful kind → (r : Result X Y) (w w' : Moment Job) → Worked [] w → IfOk r (λ _. Led w w') → IfOk r (λ _. KeptOn kind w')
+made_keeps kind laws (Ok x) w w' was way =
+    let worked = subst (λ (t : Trace Job). Worked t w') (append-nil way.trace) (worked_more was way.led) in
+    record { trace = way.trace; worked = worked; keeps = always_keeps kind laws way.trace w' worked }
+made_keeps kind laws (Err y) w w' was way = tt
 
 -- one step more
 pub made_more : {bs : List ℕ} {n : ℕ} {start : List ℕ} {w : Moment Job} {i index index' : ℕ} {lines lines' : List ℕ} {u u' : Moment Job}

@@ -1,3 +1,4 @@
 pub mod Dispatching
 pub mod Chunking
 pub mod Leading
+pub mod Pieces

@@ -1,5 +1,6 @@
 -- What the steps that were read so far have done.
-use Rattle.std.specs.Prelude.{◌≡◌, ℕ, ◌+◌, ◌-◌, ◌*◌, ◌^◌, ◌<◌, min, List, ◌++◌, length, take, drop, Ok, Err, Result}
+use Rattle.std.specs.Prelude.{◌≡◌, ℕ, ◌+◌, ◌-◌, ◌*◌, ◌^◌, ◌<◌, ◌≤◌, min, List, [], ◌++◌, length, take, drop, Ok, Err, Option, Result}
+use Rattle.std.specs.Io.KnownBytes.{Appends, Consumes, IsAtEnd}
 use Rattle.letters.specs.declared.job.Job.{Job}
 use Rattle.letters.specs.declared.refusal.Refusal.{Refusal}
 use Rattle.sheets.specs.Sheets.{Kind}
@@ -63,17 +64,28 @@ abbrev pub Ran : Result (Unit {0}) NoStep → List ℕ → ℕ → List ℕ → 
 Ran (Ok made) bs n start w index lines w' = AllMade bs n start w index lines w'
 Ran (Err stop) bs n start w index lines w' = SomeMade bs n start w index lines w'
 
+-- The input's steps were made in turn, up to the first that cannot be read, and their lines were written behind what was
+-- written before, and nothing else.
+pub record Printed (input : List ℕ) (w : Moment Job) (before after : Option (List ℕ)) (w' : Moment Job) : Type 0 where
+  pub made : Result (Unit {0}) NoStep
+  pub index : ℕ
+  pub lines : List ℕ
+  pub ran : Ran made input 0 [] w index lines w'
+  pub written : Appends before after lines
+
+-- a chunk of n bytes was read; it is short only where nothing is left
+pub record Filled (known left : Option (List ℕ)) (chunk : List ℕ) (n : ℕ) : Type 0 where
+  pub fits : n ≤ length chunk
+  pub read : Consumes known left (take n chunk)
+  pub short : n < length chunk → IsAtEnd left
+
 -- some calls, made in turn, led from one moment of the room to the other
 pub record Led (w w' : Moment Job) : Type 0 where
   pub trace : Trace Job
   pub led : Leads w trace w'
 
--- after some more calls the room was worked, and it keeps causal order, complete delivery and convergence
-pub record KeptOn {M : Type 0} (kind : Kind M Job) (past : Trace Job) (w' : Moment Job) : Type 0 where
+-- the room was worked by some calls from its opening on, and it keeps causal order, complete delivery and convergence
+pub record KeptOn {M : Type 0} (kind : Kind M Job) (w' : Moment Job) : Type 0 where
   pub trace : Trace Job
-  pub worked : Worked (trace ++ past) w'
-  pub keeps : Keeps kind (trace ++ past) w'
-
--- so, by whatever calls the room was worked before
-abbrev pub KeepsOn : {M : Type 0} → Kind M Job → Moment Job → Moment Job → Type 0
-KeepsOn kind w w' = (past : Trace Job) → Worked past w → KeptOn kind past w'
+  pub worked : Worked trace w'
+  pub keeps : Keeps kind trace w'

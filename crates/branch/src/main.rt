@@ -1,9 +1,10 @@
 // A box to try: a job room of three seats on lines.
 #![tactic(auto)]
 
-ghost use Rattle.std.specs.Prelude.{OnOk};
+ghost use Rattle.std.specs.Prelude.{IfOk, IfSome, OnOk, []};
+ghost use Rattle.lives.specs.Worked.{Worked};
 ghost use Rattle.branch.specs.Desks.{standing};
-ghost use Rattle.branch.specs.Runs.{KeepsOn, Led};
+ghost use Rattle.branch.specs.Runs.{Filled, KeptOn, Led, Printed};
 
 use crate::desk::Desk;
 use crate::line::add_log;
@@ -16,8 +17,9 @@ use letters::stamp::Stamp;
 use rooms::draft::Draft;
 use sheets::job_list::JobList;
 use sheets::sheet::Sheet;
+use std::alloc::Global;
 use std::io;
-use std::io::Read;
+use std::io::{Read, Write};
 
 mod desk;
 mod line;
@@ -28,37 +30,61 @@ mod step;
 // How many bytes are held at a time: whole steps.
 const CHUNK: usize = 512;
 
-// Makes the steps of the standard input, which may be of any length, and prints their lines.
-fn drive<C: Carrier<Body = Job>>(rt: &HostRuntime, desk: &mut Desk<'_, C>) -> io::Result<()>
-    ensures { OnOk result (Led (standing C.Carrier.meaning desk.old) (standing C.Carrier.meaning desk.new)) }
+// Fills the chunk as far as the input goes, and answers how many bytes it has.
+fn fill<R: Read>(input: &mut R, chunk: &mut [u8]) -> io::Result<usize>
+    ensures { IfOk result (λ n. Filled (R.remaining input.old) (R.remaining input.new) chunk.new n) }
 {
-    let mut held = Vec::with_capacity(rt.alloc(), CHUNK)?;
-    let mut lines = String::new(rt.alloc());
-    let mut index = 0;
-    // The bound is there only because every loop has to end. Listing has a loop like this one; what each does with a chunk,
-    // and what it keeps by that, is its own.
+    let mut at = 0;
+    // The bound is there only because every loop has to end, here and below.
     for _ in 0..u64::MAX {
-        held.clear();
+        if at >= chunk.len() {
+            return Ok(at);
+        }
+        let n = input.read(&mut chunk[at..])?;
+        if n == 0 {
+            return Ok(at);
+        }
+        at += n;
+    }
+    Err(io::Error::from(io::ErrorKind::InvalidInput))
+}
+
+// Makes the steps of an input of any length, chunk by chunk, and writes their lines, and nothing else.
+fn drive<C: Carrier<Body = Job>, R: Read, W: Write>(
+    alloc: Global,
+    input: &mut R,
+    output: &mut W,
+    desk: &mut Desk<'_, C>,
+) -> io::Result<()>
+    ensures led { OnOk result (Led (standing C.Carrier.meaning desk.old) (standing C.Carrier.meaning desk.new)) }
+    ensures printed { OnOk result (IfSome (R.remaining input.old) (λ bytes. Printed bytes (standing C.Carrier.meaning desk.old) (W.contents output.old) (W.contents output.new) (standing C.Carrier.meaning desk.new))) }
+{
+    let mut held = [0; CHUNK];
+    let mut lines = String::new(alloc);
+    let mut index = 0;
+    for _ in 0..u64::MAX {
         lines.clear();
-        rt.stdin().take(CHUNK as u64).read_to_end(&mut held)?;
-        let made = desk.make_steps(held.as_slice(), &mut index, &mut lines)?;
-        rt.print(&lines)?;
-        if made.is_err() || held.len() < CHUNK {
+        let read = fill(input, &mut held)?;
+        let made = desk.make_steps(&held[..read], &mut index, &mut lines)?;
+        output.write_all(lines.as_bytes())?;
+        if made.is_err() || read < CHUNK {
             return Ok(());
         }
     }
-    Ok(())
+    Err(io::Error::from(io::ErrorKind::InvalidInput))
 }
 
-// The same. By whatever calls the room was worked before, afterwards its logs are in causal order, they are complete where
-// nothing is on its way, and logs of the same letters make the same sheet, of every kind that has jobs.
+// The same, from the standard input to the standard output. Of a room that was opened and not yet worked, the logs are then
+// in causal order, they are complete where nothing is on its way, and logs of the same letters make the same sheet, of every
+// kind that has jobs.
 fn run<K: Sheet<Body = Job>, C: Carrier<Body = Job>>(
     rt: &HostRuntime,
     desk: &mut Desk<'_, C>,
 ) -> io::Result<()>
-    ensures { OnOk result (KeepsOn K.Sheet.kind (standing C.Carrier.meaning desk.old) (standing C.Carrier.meaning desk.new)) }
+    requires { Worked [] (standing C.Carrier.meaning desk.old) }
+    ensures { OnOk result (KeptOn K.Sheet.kind (standing C.Carrier.meaning desk.new)) }
 {
-    drive(rt, desk)
+    drive(rt.alloc(), &mut rt.stdin(), &mut io::writer(rt), desk)
 }
 
 // Prints the logs of the first seats.

@@ -1,6 +1,7 @@
 // Drafting a room, enrolling its boxes and opening it.
-ghost use Rattle.std.specs.Prelude.{◌≡◌, length, take, Ok};
+ghost use Rattle.std.specs.Prelude.{◌≡◌, [], length, take, Ok};
 ghost use Rattle.letters.specs.Refusals.{told};
+ghost use Rattle.lives.specs.Worked.{Worked, moment};
 ghost use Rattle.rooms.specs.Drafts.{draft_check, draft_state, drafted, enrol_answer, enrol_check, enrolled, has, open_check, opened, quiet};
 ghost use Rattle.rooms.specs.States.{state};
 
@@ -102,7 +103,8 @@ impl Draft {
         carrier: &C,
     ) -> Room
         requires { open_check (draft_state self) (length logs.now) (length holds.now) (C.Carrier.meaning carrier.now) ≡ Ok tt }
-        ensures { state result ≡ opened (draft_state self) }
+        ensures room { state result ≡ opened (draft_state self) }
+        ensures worked { Worked [] (moment (state result) logs.now holds.now (C.Carrier.meaning carrier.now)) }
     {
         let Draft { terms } = self;
         Room::fresh(terms)

@@ -18,7 +18,7 @@ returns g c =
     let trace = traced answer_of [] c.args.steps.now now.replies in
     let after = moment (state now.room) now.logs now.holds (g.C.Carrier.meaning now.carrier) in
     let can = runnable (draft_state d) (length logs) (length holds) before (length c.args.steps.now) (length c.args.replies.now) c.requires in
-    let leads = subst (λ (st : RoomState). Leads (moment st logs holds before) trace after) c.open-room.ensures c.step_all.ensures.leads in
+    let leads = subst (λ (st : RoomState). Leads (moment st logs holds before) trace after) c.open-room.ensures.room c.step_all.ensures.leads in
     let worked : Worked trace after = record { first = moment (opened (draft_state d)) logs holds before; opened = as_opened d logs holds before (g.C.Carrier.lawful c.args.carrier.now) _ _ can; led = leads } in
     record {
       leads = leads;
