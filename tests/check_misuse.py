@@ -4,9 +4,9 @@
 usage: check_misuse.py
 
 Posting to a draft does not compile; one opens it first. Letting a docket fall does not compile; one sends or parks it. Nor
-does what else only the crate of rooms may do: to make a docket, to take one apart, to spend one twice, to enrol in an open
-room, to work a closed one. The crates below are made in a temporary folder, over copies of the crates that they stand on. Each twin must pass there, by
-`rt ci`, which knows what it has proved of the crates below on this machine; and `rt check` must refuse each misuse with the
+does what else only the crate of rooms may do: to make a docket, to change one, to take one apart, to spend one twice, to
+tell a seat anything, to enrol in an open room, to work a closed one. The crates below are made in a temporary folder, over
+copies of the crates that they stand on. Each twin must pass there, by `rt ci`, which knows what it has proved of the crates below on this machine; and `rt check` must refuse each misuse with the
 very line that it names.
 """
 
@@ -101,6 +101,16 @@ TAKE_OUT = misuse(
     "    let ClosedRoom { room } = closed;\n    room\n",
 )
 
+NOTE = misuse(["rooms::room::Room", "seats::seat::DocketEvent"], "(room: &mut Room)", "    room.note_docket(0, DocketEvent::Send);\n")
+TELL = misuse(["rooms::room::Room", "seats::seat::Seat"], "(room: &mut Room, seat: Seat)", "    room.tell(0, seat);\n")
+SEATS = misuse(["rooms::room::Room", "seats::seat::Seat"], "(room: &mut Room, seat: Seat)", "    room.seats = [seat; 16];\n")
+
+
+def changed(field):
+    """A crate that writes one number of a docket."""
+    return misuse(["rooms::docket::Docket"], "(docket: &mut Docket)", f"    docket.{field} = 1;\n")
+
+
 # Name, source, and the words of the compiler's refusal; none for a crate that must pass.
 CRATES = [
     ("draft_posted_to", POST.replace("ROOM", "draft"), ["error[unknown-method]", "no method named `post` found for type `Draft`"]),
@@ -111,6 +121,13 @@ CRATES = [
     ("docket_made_of_a_slip", MAKE_OF_SLIP, ["error[unknown-method]", "named `of` found for struct `Docket`"]),
     ("docket_taken_apart", TAKE_APART, ["error[private-field]", "field `room` of struct `Docket` is private"]),
     ("docket_turned_into_a_slip", TURN, ["error[unknown-method]", "no method named `into_slip` found for type `Docket`"]),
+    *[
+        (f"docket_{field}_changed", changed(field), ["error[private-field]", f"field `{field}` of struct `Docket` is private"])
+        for field in ("room", "seat", "number")
+    ],
+    ("docket_noted_from_outside", NOTE, ["error[unknown-method]", "no method named `note_docket` found for type `Room`"]),
+    ("seat_told_from_outside", TELL, ["error[unknown-method]", "no method named `tell` found for type `Room`"]),
+    ("seats_changed_from_outside", SEATS, ["error[private-field]", "field `seats` of struct `Room` is private"]),
     ("docket_parked_twice", PARK_TWICE, ["error[borrow-e0382]", "use of moved value: `docket`"]),
     ("open_room_enrolled_in", ENROL, ["error[unknown-method]", "no method named `enrol` found for type `Room`"]),
     ("closed_room_posted_to", POST_CLOSED, ["error[unknown-method]", "no method named `post` found for type `ClosedRoom`"]),

@@ -1,6 +1,7 @@
 // What a docket says.
 
-// The three numbers of a docket: the room's, the seat's and the letter's. Plain data; it gives no right to send.
+// The three numbers of a docket: the room's, the seat and the letter's. Plain data: a step that is told by numbers brings
+// them, and a room refuses those that no docket out has.
 #[derive(Clone, Copy, PartialEq, Eq)]
 pub struct Slip {
     pub room: u32,
