@@ -13,3 +13,4 @@ pub mod Theorems
 pub mod Telling
 pub mod Making
 pub mod Sample
+pub mod Turns

@@ -9,6 +9,7 @@ use Rattle.letters.specs.Logs.{Once, Ordered}
 use Rattle.causality.specs.Logs.{Stands}
 use Rattle.causality.specs.History.{History, posted_letters, Before, LedTo, direct, through, told}
 use Rattle.causality.specs.Worlds.{World}
+use Rattle.causality.proofs.Turns.{in_turn}
 use Rattle.causality.specs.Theorems.{InOrder, Genuine, AllGenuine, CausalOrder, CompleteDelivery, EnoughPlaces, OrderForSheets, StampsMeanLedTo}
 use Rattle.causality.proofs.Lists.{in_eq, in_none, in_left, in_middle, apart_front}
 use Rattle.causality.proofs.Counting.{at_most}
@@ -163,6 +164,7 @@ module _ {B : Type 0} where
 pub causal_order : {B : Type 0} → CausalOrder B
 causal_order = record {
   in_order = λ N Q w h run s. in_order N Q w h (always N Q w h run) s;
+  in_turn = λ N Q w h run s. in_turn run s;
   by_name = λ N Q w h run m k i j. led_by_names N Q w h (always N Q w h run) m k i j;
   genuine = λ N Q w h run. all_genuine N Q w h (always N Q w h run);
 }

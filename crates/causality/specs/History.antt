@@ -1,6 +1,6 @@
 -- What happened in a room, and what led to what: no word of stamps. L is what the letters are told by: whole letters, or
 -- their names.
-use Rattle.std.specs.Prelude.{◌≡◌, ℕ, ◌⊎◌, List, [], ◌∷◌}
+use Rattle.std.specs.Prelude.{◌≡◌, ℕ, cond, ◌⊎◌, List, [], ◌∷◌, ◌++◌, ◌==◌}
 
 -- a letter was posted, or shown (delivered), at the box of a seat
 pub data Event (L : Type 0) : Type 0 where
@@ -23,6 +23,12 @@ module _ {L : Type 0} where
   Seen s m [] = ⊥
   Seen s m (posted t k ∷ h) = ((s ≡ t) × (m ≡ k)) ⊎ Seen s m h
   Seen s m (shown t k ∷ h) = ((s ≡ t) × (m ≡ k)) ⊎ Seen s m h
+
+  -- the letters that were posted or shown at the box of seat s, the oldest first
+  abbrev pub seen_at : ℕ → History L → List L
+  seen_at s [] = []
+  seen_at s (posted t m ∷ h) = cond (t == s) (seen_at s h ++ (m ∷ [])) (seen_at s h)
+  seen_at s (shown t m ∷ h) = cond (t == s) (seen_at s h ++ (m ∷ [])) (seen_at s h)
 
   -- at the box where m' was posted, its poster's, m was posted or shown before
   abbrev pub Before : L → L → History L → Type 0

@@ -8,7 +8,7 @@ use Rattle.causality.specs.declared.docket.DocketState.TheVariants.{Clear}
 use Rattle.letters.specs.Lists.{◌∈◌}
 use Rattle.letters.specs.Logs.{Once}
 use Rattle.causality.specs.Logs.{Stands, ForSheets}
-use Rattle.causality.specs.History.{History, posted, posted_letters, Seen, LedTo, told}
+use Rattle.causality.specs.History.{History, posted, posted_letters, Seen, LedTo, seen_at, told}
 use Rattle.causality.specs.Worlds.{Box, World}
 use Rattle.causality.specs.Steps.{Stray}
 use Rattle.causality.specs.Runs.{Run, AtAllTimes}
@@ -62,6 +62,8 @@ module _ {B : Type 0} where
 -- Every log is in order, and every letter is the one that was posted; told by names, the same letters led to one another.
 pub record CausalOrder (B : Type 0) : Type 0 where
   pub in_order : AtAllTimes {B = B} (λ N Q w h. (s : ℕ) → InOrder s h (w.box s).log)
+  -- a log is what was posted or shown there, in that order
+  pub in_turn : AtAllTimes {B = B} (λ N Q w h. (s : ℕ) → (w.box s).log ≡ seen_at s h)
   pub by_name : AtAllTimes {B = B} (λ N Q w h. (m k : Letter B) → m ∈ posted_letters h → k ∈ posted_letters h
       → LedTo h m k ↔ LedTo (told letter_name h) (letter_name m) (letter_name k))
   pub genuine : AtAllTimes {B = B} (λ N Q w h. AllGenuine N w h)

@@ -5,13 +5,14 @@ use Rattle.letters.specs.Letters.{letter_name}
 use Rattle.letters.specs.Names.{Name}
 use Rattle.letters.specs.Order.{CoversLetter, Ready, SameLetter}
 use Rattle.causality.specs.declared.docket.DocketState.TheVariants.{Clear}
-use Rattle.causality.specs.History.{Event, History, LedTo, Seen, posted, posted_letters, shown, told}
+use Rattle.causality.specs.History.{Event, History, LedTo, Seen, posted, posted_letters, seen_at, shown, told}
 use Rattle.letters.specs.Lists.{◌∈◌, here, there}
 use Rattle.causality.specs.Theorems as theorems
 use Rattle.causality.specs.Steps.{Stray}
 use Rattle.causality.specs.Worlds.{Box}
 use Rattle.causality.proofs.Lists.{in_as, in_eq, in_none}
 use Rattle.causality.proofs.Named.{seen_told}
+use Rattle.causality.proofs.Turns.{told_in_turn}
 use Rattle.causality.proofs.Theorems.{causal_order, complete_delivery, enough_places, order_for_sheets, stamps_mean_led_to}
 use Rattle.sheets.specs.Sheets.{Kind, Lawful}
 use Rattle.seats.specs.Outcomes.{is_stray}
@@ -94,6 +95,7 @@ module _ {B : Type 0} (trace : Trace B) (w : Moment B) (life : Lives trace w) wh
               let x = seen_told letter_name s i h (subst (Seen s i) (sym life.events_are) seen) in
               record { letter = x.0; inside = (order.seen x.0).1 x.1; called = x.2 },
         );
+        in_turn = ap (map letter_name) (sym (in_log s lt) ∙ causal_order.in_turn N Q (view w) h life.run s) ∙ told_in_turn letter_name s h ∙ ap (seen_at s) life.events_are;
         once = order.once;
         led = λ a b m i e led. order.led_by_name a b m i e (subst (λ (past : History Name). LedTo past i (letter_name m)) (sym life.events_are) led);
         covered = order.covered;

@@ -1,11 +1,11 @@
 -- What is kept at all times of a room's life, told by its trace and by what can be seen: logs, holds, and what waits.
-use Rattle.std.specs.Prelude.{◌≡◌, ℕ, ◌*◌, ◌<◌, ◌≤◌, false, ◌↔◌, List, [], ◌∷◌, ◌++◌, length, take, Ok}
+use Rattle.std.specs.Prelude.{◌≡◌, ℕ, ◌*◌, ◌<◌, ◌≤◌, false, ◌↔◌, List, [], ◌∷◌, ◌++◌, map, length, take, Ok}
 use Rattle.letters.specs.declared.letter.Letter.{Letter}
 use Rattle.letters.specs.Letters.{letter_name}
 use Rattle.letters.specs.Names.{Name, name}
 use Rattle.letters.specs.Order.{Covers, CoversLetter, Ready, SameLetter}
 use Rattle.causality.specs.declared.docket.DocketState.TheVariants.{Clear}
-use Rattle.causality.specs.History.{LedTo, Seen}
+use Rattle.causality.specs.History.{LedTo, Seen, seen_at}
 use Rattle.letters.specs.Lists.{◌∈◌}
 use Rattle.letters.specs.Logs.{Once}
 use Rattle.causality.specs.Logs.{Stands}
@@ -24,10 +24,11 @@ module _ {B : Type 0} where
   abbrev pub hold_at : Moment B → ℕ → List (Letter B)
   hold_at w s = hold_of w.room w.holds s
 
-  -- The log of seat s holds the letters that were posted or shown there, none twice, and above each letter everything that
-  -- led to it (happened before it), and everything that it covers but itself.
+  -- The log of seat s holds the letters that were posted or shown there, in that order, none twice, and above each letter
+  -- everything that led to it (happened before it), and everything that it covers but itself.
   pub record InOrder (trace : Trace B) (s : ℕ) (log : List (Letter B)) : Type 0 where
     pub seen : (i : Name) → Stands i log ↔ Seen s i (events trace)
+    pub in_turn : map letter_name log ≡ seen_at s (events trace)
     pub once : Once log
     pub led : (a b : List (Letter B)) (m : Letter B) (i : Name) → log ≡ a ++ (m ∷ b) → LedTo (events trace) i (letter_name m) → Stands i a
     pub covered : (a b : List (Letter B)) (m : Letter B) (p n : ℕ) → log ≡ a ++ (m ∷ b) → 1 ≤ n → Covers m p n
