@@ -9,6 +9,6 @@ module _ {M B : Type 0} (kind : Kind M B) (laws : Lawful kind) where
   pub converges : Converges kind
   converges log other fits once once-too ordered ordered-too same =
       let starts = laws.starts in
-      same_fold CoversLetter (λ x. le_refl (number_of x)) kind.entered kind.count kind.places laws.adds
+      same_fold CoversLetter (λ x. le_refl (number_of x)) kind.entered kind.count kind.places (λ m x room. laws.adds m x (λ full. absurd (omega (arith, room, full))))
       (λ m x y room forth back. laws.commutes m x y room (record { forth = forth; back = back }))
       kind.empty log other ordered ordered-too same (omega arith)

@@ -1,5 +1,5 @@
 -- What every kind of sheet does.
-use Rattle.std.specs.Prelude.{◌≡◌, ℕ, ◌+◌, ◌<◌, ◌≤◌, not, List, length, take, Ok, Err, fold, Result, ◌==◌, nat_le}
+use Rattle.std.specs.Prelude.{◌≡◌, ℕ, ◌+◌, ◌≤◌, not, List, length, take, Ok, Err, fold, Result, ◌==◌, nat_le}
 use Rattle.letters.specs.declared.letter.Letter.{Letter}
 use Rattle.letters.specs.Order.{SideBySide}
 use Rattle.letters.specs.Refusals.{Reason, unless}
@@ -49,8 +49,8 @@ module _ {M B : Type 0} (kind : Kind M B) where
   pub record Lawful : Type 0 where
     -- nothing is entered on an empty sheet
     pub starts : kind.count kind.empty ≡ 0
-    -- with a place free, entering adds one to the count
-    pub adds : (m : M) (x : Letter B) → kind.count m < kind.places → kind.count (kind.entered m x) ≡ kind.count m + 1
+    -- where not exactly as many letters are entered as there are places, entering adds one to the count
+    pub adds : (m : M) (x : Letter B) → ¬ (kind.count m ≡ kind.places) → kind.count (kind.entered m x) ≡ kind.count m + 1
     -- with two places free, letters that are side by side may be entered in either order
     pub commutes : (m : M) (x y : Letter B) → kind.count m + 2 ≤ kind.places → SideBySide x y
         → kind.entered (kind.entered m x) y ≡ kind.entered (kind.entered m y) x

@@ -1,5 +1,5 @@
 // Sheets of every kind, and how a log is drawn up on one.
-ghost use Rattle.std.specs.Prelude.{◌≡◌, ℕ, ◌<◌, ◌≤◌, length};
+ghost use Rattle.std.specs.Prelude.{◌≡◌, ℕ, ◌<◌, length};
 ghost use Rattle.letters.specs.Refusals.{told};
 ghost use Rattle.sheets.specs.Sheets.{Converges, Kind, Lawful, answered, draw_up_outcome, enter_outcome, left_by};
 
@@ -40,9 +40,6 @@ pub trait Sheet {
         ensures untouched { kind.count (meaning self.old) ≡ kind.places → self.new ≡ self.old };
 
     ghost sized: { kind.places ≡ PLACES };
-
-    // Never are more letters entered than there are places.
-    ghost full: { (s : Self) → kind.count (meaning s) ≤ kind.places };
 
     ghost lawful: { Lawful kind };
 }

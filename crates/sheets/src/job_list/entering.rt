@@ -113,8 +113,6 @@ impl Sheet for JobList {
 
     ghost sized = { refl };
 
-    ghost full = { λ s. s.fit };
-
     ghost lawful = { record {
       starts = refl;
       adds = λ m x room. refl;

@@ -80,8 +80,6 @@ impl Sheet for Timeline {
 
     ghost sized = { refl };
 
-    ghost full = { λ s. s.fit };
-
     ghost lawful = { record {
       starts = refl;
       adds = λ m x room. refl;
