@@ -5,7 +5,7 @@ usage: check_misuse.py
 
 Posting to a draft does not compile; one opens it first. Letting a docket fall does not compile; one sends or parks it. Nor
 does what else only the crate of rooms may do: to make a docket, to change one, to take one apart, to spend one twice, to
-tell a seat anything, to enrol in an open room, to work a closed one. The crates below are made in a temporary folder, over
+send a letter by the numbers of its docket, to tell a seat anything, to enrol in an open room, to work a closed one. The crates below are made in a temporary folder, over
 copies of the crates that they stand on. Each twin must pass there, by `rt ci`, which knows what it has proved of the crates below on this machine; and `rt check` must refuse each misuse with the
 very line that it names.
 """
@@ -104,6 +104,20 @@ TAKE_OUT = misuse(
 NOTE = misuse(["rooms::room::Room", "seats::seat::DocketEvent"], "(room: &mut Room)", "    room.note_docket(0, DocketEvent::Send);\n")
 TELL = misuse(["rooms::room::Room", "seats::seat::Seat"], "(room: &mut Room, seat: Seat)", "    room.tell(0, seat);\n")
 SEATS = misuse(["rooms::room::Room", "seats::seat::Seat"], "(room: &mut Room, seat: Seat)", "    room.seats = [seat; 16];\n")
+STEP = misuse(
+    [
+        "carriers::lines::Lines",
+        "letters::job::Job",
+        "letters::letter::Letter",
+        "letters::refusal::Refusal",
+        "lives::moves::Move",
+        "lives::reply::Reply",
+        "rooms::room::Room",
+        "seats::slip::Slip",
+    ],
+    "(room: &mut Room, logs: &mut [Letter<Job>], holds: &mut [Letter<Job>], lines: &mut Lines<Job>, slip: Slip) -> Result<Reply, Refusal>",
+    "    room.step(logs, holds, lines, Move::Send(slip))\n",
+)
 
 
 def changed(field):
@@ -127,6 +141,7 @@ CRATES = [
     ],
     ("docket_noted_from_outside", NOTE, ["error[unknown-method]", "no method named `note_docket` found for type `Room`"]),
     ("seat_told_from_outside", TELL, ["error[unknown-method]", "no method named `tell` found for type `Room`"]),
+    ("letter_sent_by_numbers", STEP, ["error[unknown-method]", "no method named `step` found for type `Room`"]),
     ("seats_changed_from_outside", SEATS, ["error[private-field]", "field `seats` of struct `Room` is private"]),
     ("docket_parked_twice", PARK_TWICE, ["error[borrow-e0382]", "use of moved value: `docket`"]),
     ("open_room_enrolled_in", ENROL, ["error[unknown-method]", "no method named `enrol` found for type `Room`"]),

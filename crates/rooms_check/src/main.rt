@@ -1,4 +1,4 @@
-// Runs a job room on a pair of lines and a spool, by steps of twelve bytes, and prints what each replies, the logs, and the
+// Runs a job room on a pair of lines and a spool, by steps of twelve bytes, and prints what each replied, the logs, and the
 // job list of each seat.
 #![tactic(auto)]
 
@@ -14,9 +14,11 @@ use lives::reply::Reply;
 use pair::Pair;
 use rooms::draft::Draft;
 use rooms::room::Room;
+use rooms::run;
 use seats::slip::Slip;
 use sheets::job_list::JobList;
 use spool::Spool;
+use std::alloc::{AllocError, Global};
 use std::io;
 use std::io::Read;
 
@@ -46,6 +48,12 @@ enum Stop {
 impl From<Refusal> for Stop {
     fn from(why: Refusal) -> Stop {
         Stop::Refused(why)
+    }
+}
+
+impl From<AllocError> for Stop {
+    fn from(error: AllocError) -> Stop {
+        Stop::Io(io::Error::from(error))
     }
 }
 
@@ -99,34 +107,56 @@ fn print_reply(rt: &HostRuntime, reply: Reply) -> io::Result<()> {
     }
 }
 
-// A room at work, with the tables and the carrier that are brought to its calls.
+// The steps that the bytes write, without those that cannot be read.
+fn read_moves(alloc: Global, steps: &[u8]) -> Result<Vec<Move<Job>>, AllocError> {
+    let mut asked = Vec::new(alloc);
+    for bytes in steps.chunks_exact(12) {
+        if let Ok(step) = read_move(bytes) {
+            asked.push(step)?;
+        }
+    }
+    Ok(asked)
+}
+
+// Places for so many replies.
+fn no_replies(alloc: Global, count: usize) -> Result<Vec<Result<Reply, Refusal>>, AllocError> {
+    let mut replies = Vec::new(alloc);
+    for _ in 0..count {
+        replies.push(Err(Refusal::TooShort))?;
+    }
+    Ok(replies)
+}
+
+// Prints what each step replied, and the refusals of those that cannot be read between them.
+fn print_replies(
+    rt: &HostRuntime,
+    steps: &[u8],
+    replies: &[Result<Reply, Refusal>],
+) -> io::Result<()> {
+    let mut replied = replies.iter();
+    for bytes in steps.chunks_exact(12) {
+        let reply = match read_move(bytes) {
+            Ok(_) => *replied.next().unwrap_or(&Err(Refusal::TooShort)),
+            Err(why) => Err(why),
+        };
+        match reply {
+            Ok(reply) => print_reply(rt, reply)?,
+            Err(why) => println!(rt; "refused {why}")?,
+        }
+    }
+    Ok(())
+}
+
+// A room that was worked, with the tables that are brought to its calls.
 // Each program has its own: inherent impls stay in the type's crate, so one of another crate could have no methods here.
 #[derive(Drop)]
-struct Desk<'t, C> {
+struct Desk<'t> {
     room: Room,
     logs: &'t mut [Letter<Job>],
     holds: &'t mut [Letter<Job>],
-    carrier: C,
 }
 
-impl<C: Carrier<Body = Job>> Desk<'_, C> {
-    // Makes the step that the bytes write, and prints what the room replies.
-    fn make_step(&mut self, rt: &HostRuntime, bytes: &[u8]) -> Result<(), Stop> {
-        let asked = read_move(bytes)?;
-        let reply = self
-            .room
-            .step(self.logs, self.holds, &mut self.carrier, asked)?;
-        print_reply(rt, reply)?;
-        Ok(())
-    }
-
-    fn make_steps(&mut self, rt: &HostRuntime, steps: &[u8]) -> io::Result<()> {
-        for bytes in steps.chunks_exact(12) {
-            tell(rt, self.make_step(rt, bytes))?;
-        }
-        Ok(())
-    }
-
+impl Desk<'_> {
     fn print_log(&self, rt: &HostRuntime, seat: u8) -> io::Result<()> {
         print!(rt; "log {seat}")?;
         if let Ok(log) = self.room.log(self.logs, self.holds, seat) {
@@ -168,17 +198,33 @@ fn live_on_pair<C: Carrier<Body = Job> + Drop, D: Carrier<Body = Job> + Drop>(
     steps: &[u8],
 ) -> Result<(), Stop> {
     Pair::check(&first, &second)?;
-    let pair = Pair::new(first, second);
+    let mut pair = Pair::new(first, second);
     let mut logs = [blank; PLACES];
     let mut holds = [blank; PLACES];
-    draft.check_open(&logs, &holds, &pair)?;
-    let mut desk = Desk {
-        room: draft.open(&logs, &holds, &pair),
+    let asked = read_moves(rt.alloc(), steps)?;
+    let mut replies = no_replies(rt.alloc(), asked.len())?;
+    run::check(
+        &draft,
+        &logs,
+        &holds,
+        &pair,
+        asked.as_slice(),
+        replies.as_slice(),
+    )?;
+    let room = run::run::<Job, Pair<C, D>, JobList>(
+        draft,
+        &mut logs,
+        &mut holds,
+        &mut pair,
+        asked.as_slice(),
+        replies.as_mut_slice(),
+    );
+    print_replies(rt, steps, replies.as_slice())?;
+    let desk = Desk {
+        room,
         logs: &mut logs,
         holds: &mut holds,
-        carrier: pair,
     };
-    desk.make_steps(rt, steps)?;
     desk.print_seats(rt, seats)?;
     Ok(())
 }
@@ -194,7 +240,7 @@ fn make_draft(setting: Setting) -> Result<Draft, Refusal> {
     Ok(draft)
 }
 
-fn run(rt: &HostRuntime, setting: Setting, steps: &[u8]) -> Result<(), Stop> {
+fn live(rt: &HostRuntime, setting: Setting, steps: &[u8]) -> Result<(), Stop> {
     let blank = Letter::make(Stamp { entries: [1; 16] }, 0, Job::Add(0));
     let mut queues = [blank; QUEUES];
     let mut bytes = [0; BYTES];
@@ -218,5 +264,5 @@ fn main(rt: HostRuntime) -> io::Result<()> {
         quota: u16::from_le_bytes([low, high]),
         size: size as u32,
     };
-    tell(&rt, run(&rt, setting, steps))
+    tell(&rt, live(&rt, setting, steps))
 }

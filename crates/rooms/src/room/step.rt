@@ -50,8 +50,9 @@ impl Room {
         }
     }
 
-    // The same, with a docket brought by its numbers, and told by them: a list of steps is plain data.
-    pub fn step<B: Body, C: Carrier<Body = B>>(
+    // The same, with a docket brought by its numbers, and told by them: a list of steps is plain data. It stays within the
+    // crate, where `run` makes lists of steps: outside it nobody works a room by numbers, and so past a docket.
+    pub(crate) fn step<B: Body, C: Carrier<Body = B>>(
         &mut self,
         logs: &mut [Letter<B>],
         holds: &mut [Letter<B>],
