@@ -1,6 +1,7 @@
 pub mod Putting
 pub mod Meaning
 pub mod Appending
+pub mod Resting
 pub mod Places
 pub mod Lines
 pub mod LineLaws

@@ -1,5 +1,6 @@
 // What a carrier is.
 ghost use Rattle.std.specs.Prelude.{◌≡◌, OnOk};
+ghost use Rattle.std.specs.Result.{OnErr};
 ghost use Rattle.letters.specs.declared.letter.Letter.{Letter};
 ghost use Rattle.letters.specs.Letters.{parts_of};
 ghost use Rattle.letters.specs.Refusals.{told};
@@ -22,6 +23,12 @@ pub trait Carrier {
     // meaning; each make of carrier says here what its own one put does.
     ghost puts: { Self → Letter Self.Body → Self → Type 0 };
 
+    // What a refused put or draw leaves of the carrier itself, of lent memory too: each make of carrier says here how much
+    // of it stays, beyond what it means.
+    ghost rests: { Self → Self → Type 0 };
+
+    ghost still: { (c after : Self) → rests c after → meaning after ≡ meaning c };
+
     // How many seats it serves; this never changes.
     fn seats(&self) -> u8
         ensures { result ≡ (meaning self.now).seats };
@@ -38,11 +45,13 @@ pub trait Carrier {
     fn put(&mut self, letter: &Letter<Self::Body>) -> Result<(), Refusal>
         ensures answer { told (λ u. u) result ≡ put_answer (meaning self.old) letter.now.poster }
         ensures leaves { PutLeaves result (meaning self.old) letter.now.poster letter.now (meaning self.new) }
-        ensures once { OnOk result (puts self.old letter.now self.new) };
+        ensures once { OnOk result (puts self.old letter.now self.new) }
+        ensures rests { OnErr result (rests self.old self.new) };
 
     // Takes out the letter that waits at a place and fills the lent parts with its own; 8 where the seat is none here,
     // 14 where the place is past those that wait.
     fn draw(&mut self, seat: u8, place: u32, parts: &mut Parts<Self::Body>) -> Result<(), Refusal>
         ensures answer { told (λ u. u) result ≡ draw_answer (meaning self.old) seat place }
-        ensures leaves { DrawLeaves parts_of result (meaning self.old) seat place (meaning self.new) parts.old parts.new };
+        ensures leaves { DrawLeaves parts_of result (meaning self.old) seat place (meaning self.new) parts.old parts.new }
+        ensures rests { OnErr result (rests self.old self.new) };
 }

@@ -2,9 +2,11 @@
 #![tactic(auto)]
 
 ghost use Rattle.std.specs.Prelude.{◌≡◌, Ok, OnOk};
+ghost use Rattle.std.specs.Result.{OnErr};
 ghost use Rattle.letters.specs.Refusals.{told};
 ghost use Rattle.letters.specs.Letters.{parts_of};
 ghost use Rattle.carriers.specs.Meaning.{DrawLeaves, PutLeaves, draw_answer, put_answer};
+ghost use Rattle.carriers.specs.Resting.{as_it_was};
 ghost use Rattle.pair.specs.PairLaws.{lawful_both};
 ghost use Rattle.pair.specs.Pairs.{DrawsOne, both, pair_answer};
 
@@ -58,13 +60,18 @@ impl<C: Carrier, D: Carrier<Body = C::Body>> Carrier for Pair<C, D> {
 
     ghost puts = { λ p m after. C.Carrier.puts p.first m after.first × D.Carrier.puts p.second m after.second };
 
+    ghost rests = { λ p after. after ≡ p };
+
+    ghost still = { as_it_was (λ p. both (C.Carrier.meaning p.first) (D.Carrier.meaning p.second)) };
+
     fn seats(&self) -> u8 {
         self.seats
     }
 
     fn waits(&self, seat: u8) -> u32 {
-        let ahead = self.first.waits(seat);
-        ahead.saturating_add(self.second.waits(seat))
+        self.first
+            .waits(seat)
+            .saturating_add(self.second.waits(seat))
     }
 
     fn fits(&self, poster: u8) -> bool {
@@ -77,6 +84,7 @@ impl<C: Carrier, D: Carrier<Body = C::Body>> Carrier for Pair<C, D> {
         ensures once { OnOk result (C.Carrier.puts self.old.first letter.now self.new.first × D.Carrier.puts self.old.second letter.now self.new.second) }
         ensures first { PutLeaves result (C.Carrier.meaning self.old.first) letter.now.poster letter.now (C.Carrier.meaning self.new.first) }
         ensures second { PutLeaves result (D.Carrier.meaning self.old.second) letter.now.poster letter.now (D.Carrier.meaning self.new.second) }
+        ensures rests { OnErr result (self.new ≡ self.old) }
     {
         let poster = letter.poster();
         if poster >= self.seats {
@@ -93,11 +101,18 @@ impl<C: Carrier, D: Carrier<Body = C::Body>> Carrier for Pair<C, D> {
         ensures answer { told (λ u. u) result ≡ draw_answer (both (C.Carrier.meaning self.old.first) (D.Carrier.meaning self.old.second)) seat place }
         ensures leaves { DrawLeaves parts_of result (both (C.Carrier.meaning self.old.first) (D.Carrier.meaning self.old.second)) seat place (both (C.Carrier.meaning self.new.first) (D.Carrier.meaning self.new.second)) parts.old parts.new }
         ensures one { DrawsOne result (C.Carrier.meaning self.old.first) (D.Carrier.meaning self.old.second) seat place (C.Carrier.meaning self.new.first) (D.Carrier.meaning self.new.second) }
+        ensures rests { OnErr result (self.new ≡ self.old) }
     {
+        if seat >= self.seats {
+            return Err(Refusal::UnknownSeat);
+        }
         let ahead = self.first.waits(seat);
-        // A place of 2^32 - 1 is below no answer of `waits`, so the first refuses it for both.
-        if place < ahead || place == u32::MAX {
+        if place < ahead {
             return self.first.draw(seat, place, parts);
+        }
+        // Neither of the two is asked to draw what it would refuse, so a no here leaves all of both.
+        if place >= ahead.saturating_add(self.second.waits(seat)) {
+            return Err(Refusal::UnknownPlace);
         }
         self.second.draw(seat, place - ahead, parts)
     }

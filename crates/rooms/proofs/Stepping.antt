@@ -65,7 +65,7 @@ pub show_makes : {B : Type 0} {st st' : RoomState} {logs logs' holds holds' : Li
     → Makes (moves.Show s) (moment st logs holds c) (shows r) (moment st' logs' holds' c)
 show_makes s r answer room table hold = makes (record { answers = ap shows answer; room = room; logs = table; holds = hold; carrier = refl })
 
-module _ {B C : Type 0} (puts : C → Letter B → C → Type 0) (w w' : Moment B) (c c' : C) where
+module _ {B C : Type 0} (puts : C → Letter B → C → Type 0) (rests : C → C → Type 0) (w w' : Moment B) (c c' : C) where
   -- the same of a step with a docket in hand: the docket that was brought comes back by a no, and none otherwise; and of what
   -- became of the carrier itself
   abbrev pub MakesAsked : Ask B → Result Answer Declined → Type 0
@@ -73,11 +73,11 @@ module _ {B C : Type 0} (puts : C → Letter B → C → Type 0) (w w' : Moment 
     step : Step (move_of ask) w (answer_as r) w';
     works : WorksOn (move_of ask) w (answer_as r) w';
     docket : returned r ≡ to_return (brought ask) (answer_as r);
-    carrier : Carried puts (move_of ask) w c c';
+    carrier : Carried puts rests (move_of ask) w c c';
   }
 
   asked_as : (ask is : Ask B) (r : Result Answer Declined) → is ≡ ask → Makes (move_of is) w (answer_as r) w' → returned r ≡ to_return (brought is) (answer_as r)
-      → Carried puts (move_of is) w c c' → MakesAsked ask r
+      → Carried puts rests (move_of is) w c c' → MakesAsked ask r
   asked_as ask is r e made back carried =
       subst (λ a. MakesAsked a r) e (record { step = made.step; works = made.works; docket = back; carrier = carried })
 
@@ -88,12 +88,12 @@ module _ {B C : Type 0} (puts : C → Letter B → C → Type 0) (w w' : Moment 
   none_back (answers.Shown id) b = refl
 
   -- where the step is made, and where it is refused
-  pub made : (ask is : Ask B) (a : Answer) → is ≡ ask → Makes (move_of is) w (answer_as (Ok a)) w' → Carried puts (move_of is) w c c'
+  pub made : (ask is : Ask B) (a : Answer) → is ≡ ask → Makes (move_of is) w (answer_as (Ok a)) w' → Carried puts rests (move_of is) w c c'
       → MakesAsked ask (Ok a)
   made ask is a e step carried = asked_as ask is (Ok a) e step (none_back a (brought is)) carried
 
   pub declined : (ask is : Ask B) (r : Result Answer Declined) (d : Declined) → is ≡ ask → IsErrAnd r (λ x. x ≡ d)
-      → Makes (move_of is) w (traces.refused (reason d.refusal)) w' → d.docket ≡ brought is → Carried puts (move_of is) w c c'
+      → Makes (move_of is) w (traces.refused (reason d.refusal)) w' → d.docket ≡ brought is → Carried puts rests (move_of is) w c c'
       → MakesAsked ask r
   declined ask is (Ok a) d e so step back carried = absurd so
   declined ask is (Err x) d e so step back carried = subst (λ y. MakesAsked ask (Err y)) (sym so) (asked_as ask is (Err d) e step back carried)

@@ -2,9 +2,9 @@
 use Rattle.std.specs.Prelude.{◌≡◌, ℕ, length, Ok, Err, Result, slice_index_or}
 use Rattle.letters.specs.declared.letter.Letter.{Letter}
 use Rattle.letters.specs.Refusals.{Reason}
-use Rattle.carriers.specs.Meaning.{Drawn, Kept, Meaning}
+use Rattle.carriers.specs.Meaning.{Drawn, Meaning, draw_answer}
 use Rattle.seats.specs.declared.slip.Slip.{Slip}
-use Rattle.seats.specs.Outcomes.{PutsOnce, after, carrier_check, posted_room}
+use Rattle.seats.specs.Outcomes.{DrawRests, PutsOnce, after, carrier_check, posted_room}
 use Rattle.seats.specs.Rooms.{RoomState}
 use Rattle.lives.specs.declared.moves.Move.{Move}
 use Rattle.lives.specs.declared.moves.Move.TheVariants as moves
@@ -19,12 +19,13 @@ abbrev pub Draws : {L E : Type 0} → Result L E → Meaning L → ℕ → ℕ �
 Draws (Ok m) c s place c' = Drawn c s place c' × (m ≡ slice_index_or (c.waiting s) place m)
 Draws (Err why) c s place c' = c' ≡ c
 
--- what a step does to the carrier itself, C, of which `puts` says what one put does: a send puts the docket's letter once, or
--- leaves the carrier where there is none to put; a take that does not come to draw leaves it; no other step touches it
-abbrev pub Carried : {B C : Type 0} → (C → Letter B → C → Type 0) → Move B → Moment B → C → C → Type 0
-Carried puts (moves.Post s body) w c c' = c' ≡ c
-Carried puts (moves.Send d) w c c' = PutsOnce puts (letter_at w d) (send_at w d) c c'
-Carried puts (moves.Park d) w c c' = c' ≡ c
-Carried puts (moves.Collect s) w c c' = c' ≡ c
-Carried puts (moves.Take s place) w c c' = Kept (carrier_check w.room (length w.logs) (length w.holds) w.carrier.seats) c c'
-Carried puts (moves.Show s) w c c' = c' ≡ c
+-- what a step does to the carrier itself, C, of which `puts` says what one put does, and `rests` what a no of its own leaves: a
+-- send puts the docket's letter once, or leaves the carrier where there is none to put; a take that does not come to draw leaves
+-- it; where the carrier says no, it rests; no other step touches it
+abbrev pub Carried : {B C : Type 0} → (C → Letter B → C → Type 0) → (C → C → Type 0) → Move B → Moment B → C → C → Type 0
+Carried puts rests (moves.Post s body) w c c' = c' ≡ c
+Carried puts rests (moves.Send d) w c c' = PutsOnce puts rests (letter_at w d) (send_at w d) c c'
+Carried puts rests (moves.Park d) w c c' = c' ≡ c
+Carried puts rests (moves.Collect s) w c c' = c' ≡ c
+Carried puts rests (moves.Take s place) w c c' = DrawRests rests (carrier_check w.room (length w.logs) (length w.holds) w.carrier.seats) (draw_answer w.carrier s place) c c'
+Carried puts rests (moves.Show s) w c c' = c' ≡ c

@@ -85,6 +85,13 @@ docket_room st s e answer = after answer (λ x. with_seat st s (docketed (seat_a
 abbrev pub carrier_check : RoomState → ℕ → ℕ → ℕ → Result (Unit {0}) Reason
 carrier_check st logs holds seats = unless (suffice st logs holds) 5 (unless (seats == st.count) 6 (Ok tt))
 
+-- what a refused take leaves of the carrier itself, C: all of it where it does not come to draw, and where the carrier says
+-- no, what `rests` says that its no leaves
+abbrev pub DrawRests : {C : Type 0} → (C → C → Type 0) → Result (Unit {0}) Reason → Result (Unit {0}) Reason → C → C → Type 0
+DrawRests rests (Ok may) (Ok done) c c' = Unit {0}
+DrawRests rests (Ok may) (Err why) c c' = rests c c'
+DrawRests rests (Err why) drawn c c' = c' ≡ c
+
 abbrev pub or_missing : {X : Type 0} → Option (ℕ × X) → Result X Reason
 or_missing None = Err (plain 19)
 or_missing (Some found) = Ok found.1
@@ -134,12 +141,12 @@ module _ {B : Type 0} where
   PutOf c (Ok m) (Err why) c' = c' ≡ c
   PutOf c (Err why) answer c' = c' ≡ c
 
-  -- and on the carrier itself, C, of which `puts` says what one put does: one put of the docket's letter; where there is none
-  -- to put, nothing
-  abbrev pub PutsOnce : {C : Type 0} → (C → Letter B → C → Type 0) → Result (Letter B) Reason → Result (Unit {0}) Reason → C → C → Type 0
-  PutsOnce puts (Ok m) (Ok done) c c' = puts c m c'
-  PutsOnce puts (Ok m) (Err why) c c' = Unit {0}
-  PutsOnce puts (Err why) answer c c' = c' ≡ c
+  -- and of the carrier itself, C, of which `puts` says what one put does, and `rests` what a no of its own leaves: one put of
+  -- the docket's letter, or what the no leaves; where there is no letter to put, all as it was
+  abbrev pub PutsOnce : {C : Type 0} → (C → Letter B → C → Type 0) → (C → C → Type 0) → Result (Letter B) Reason → Result (Unit {0}) Reason → C → C → Type 0
+  PutsOnce puts rests (Ok m) (Ok done) c c' = puts c m c'
+  PutsOnce puts rests (Ok m) (Err why) c c' = rests c c'
+  PutsOnce puts rests (Err why) answer c c' = c' ≡ c
 
   -- Take. How a letter that is drawn is taken.
   abbrev pub is_stray : RoomState → ℕ → Letter B → Bool

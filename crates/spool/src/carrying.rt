@@ -3,7 +3,9 @@ ghost use Rattle.std.specs.Prelude.{◌≡◌, ◌<◌, true, length, Ok, OnOk, 
 ghost use Rattle.letters.specs.Letters.{parts_of};
 ghost use Rattle.letters.specs.Refusals.{told};
 ghost use Rattle.carriers.specs.Appending.{Appends};
-ghost use Rattle.carriers.specs.Meaning.{DrawLeaves, Drawn, Empty, Kept, PutLeaves, draw_answer, put_answer};
+ghost use Rattle.carriers.specs.Meaning.{DrawLeaves, Drawn, Empty, PutLeaves, draw_answer, put_answer};
+ghost use Rattle.carriers.specs.Resting.{as_it_was};
+ghost use Rattle.std.specs.Result.{OnErr};
 ghost use Rattle.std.specs.List.{count_by, enumerate_from, filter};
 ghost use Rattle.std.specs.Option.{option_map};
 ghost use Rattle.spool.specs.Masks.{marked};
@@ -110,6 +112,10 @@ impl<'a, B: Stored> Carrier for Spool<'a, B> {
 
     ghost puts = { λ s m after. Appends (spool_of B.form B.blank s) m.poster m (spool_of B.form B.blank after) };
 
+    ghost rests = { λ s after. after ≡ s };
+
+    ghost still = { as_it_was (spool_of B.form B.blank) };
+
     fn seats(&self) -> u8 {
         self.seats
     }
@@ -132,7 +138,7 @@ impl<'a, B: Stored> Carrier for Spool<'a, B> {
         ensures once { OnOk result (Appends (spool_of B.form B.blank self.old) letter.now.poster letter.now (spool_of B.form B.blank self.new)) }
         ensures row { AddsRow B.form result self.old letter.now self.new }
         ensures long { length self.new.tape.bytes.now ≡ length self.old.tape.bytes.now }
-        ensures kept { Kept result self.old.tape.bytes.now self.new.tape.bytes.now }
+        ensures rests { OnErr result (self.new ≡ self.old) }
     {
         let poster = letter.poster();
         if poster >= self.seats {
@@ -155,7 +161,7 @@ impl<'a, B: Stored> Carrier for Spool<'a, B> {
         ensures leaves { DrawLeaves parts_of result (spool_of B.form B.blank self.old) seat place (spool_of B.form B.blank self.new) parts.old parts.new }
         ensures row { DrawsRow B.form B.blank result self.old seat place self.new }
         ensures long { length self.new.tape.bytes.now ≡ length self.old.tape.bytes.now }
-        ensures kept { Kept result self.old.tape.bytes.now self.new.tape.bytes.now }
+        ensures rests { OnErr result (self.new ≡ self.old) }
     {
         if seat >= self.seats {
             return Err(Refusal::UnknownSeat);

@@ -1,10 +1,12 @@
 // Making lines, and lines as a carrier.
 ghost use Rattle.std.specs.Prelude.{◌≡◌, ℕ, ◌+◌, ◌<◌, [], ◌∷◌, ◌++◌, length, Ok, OnOk, slice_index, slice_index_or, slice_set};
+ghost use Rattle.std.specs.Result.{OnErr};
 ghost use Rattle.letters.specs.Letters.{parts_of};
 ghost use Rattle.letters.specs.Refusals.{told};
-ghost use Rattle.carriers.specs.Meaning.{DrawLeaves, Drawn, Empty, Kept, PutLeaves, draw_answer, put_answer};
+ghost use Rattle.carriers.specs.Meaning.{DrawLeaves, Drawn, Empty, PutLeaves, draw_answer, put_answer};
 ghost use Rattle.carriers.specs.LineLaws.{lawful_lines};
 ghost use Rattle.carriers.specs.Appending.{Appends};
+ghost use Rattle.carriers.specs.Resting.{as_it_was};
 ghost use Rattle.carriers.specs.Lines.{lines_answer, lines_of};
 
 use crate::carrier::Carrier;
@@ -95,6 +97,10 @@ impl<'a, B: Body> Carrier for Lines<'a, B> {
 
     ghost puts = { λ l m after. Appends (lines_of l) m.poster m (lines_of after) };
 
+    ghost rests = { λ l after. after ≡ l };
+
+    ghost still = { as_it_was lines_of };
+
     fn seats(&self) -> u8 {
         self.seats
     }
@@ -117,7 +123,7 @@ impl<'a, B: Body> Carrier for Lines<'a, B> {
         ensures leaves { PutLeaves result (lines_of self.old) letter.now.poster letter.now (lines_of self.new) }
         ensures once { OnOk result (Appends (lines_of self.old) letter.now.poster letter.now (lines_of self.new)) }
         ensures size { self.new.size ≡ self.old.size }
-        ensures kept { Kept result self.old.places.now self.new.places.now }
+        ensures rests { OnErr result (self.new ≡ self.old) }
     {
         let poster = letter.poster();
         if poster >= self.seats {
@@ -139,7 +145,7 @@ impl<'a, B: Body> Carrier for Lines<'a, B> {
         ensures answer { told (λ u. u) result ≡ draw_answer (lines_of self.old) seat place }
         ensures leaves { DrawLeaves parts_of result (lines_of self.old) seat place (lines_of self.new) parts.old parts.new }
         ensures size { self.new.size ≡ self.old.size }
-        ensures kept { Kept result self.old.places.now self.new.places.now }
+        ensures rests { OnErr result (self.new ≡ self.old) }
     {
         if seat >= self.seats {
             return Err(Refusal::UnknownSeat);

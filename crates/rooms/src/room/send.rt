@@ -27,7 +27,7 @@ impl Room {
         ensures answer { spent result ≡ send_answer (state self.old) logs.now (length holds.now) (C.Carrier.meaning carrier.old) (slip docket) }
         ensures docket { ComesBack docket result }
         ensures room { state self.new ≡ docket_room (state self.old) docket.seat Send (send_answer (state self.old) logs.now (length holds.now) (C.Carrier.meaning carrier.old) (slip docket)) }
-        ensures once { PutsOnce C.Carrier.puts (send_letter (state self.old) logs.now (length holds.now) (C.Carrier.meaning carrier.old).seats (slip docket)) (send_answer (state self.old) logs.now (length holds.now) (C.Carrier.meaning carrier.old) (slip docket)) carrier.old carrier.new }
+        ensures once { PutsOnce C.Carrier.puts C.Carrier.rests (send_letter (state self.old) logs.now (length holds.now) (C.Carrier.meaning carrier.old).seats (slip docket)) (send_answer (state self.old) logs.now (length holds.now) (C.Carrier.meaning carrier.old) (slip docket)) carrier.old carrier.new }
         ensures carrier { PutOf (C.Carrier.meaning carrier.old) (send_letter (state self.old) logs.now (length holds.now) (C.Carrier.meaning carrier.old).seats (slip docket)) (send_answer (state self.old) logs.now (length holds.now) (C.Carrier.meaning carrier.old) (slip docket)) (C.Carrier.meaning carrier.new) }
     {
         match self.put_letter(logs, holds, carrier, &docket) {
@@ -48,7 +48,7 @@ impl Room {
         docket: &Docket,
     ) -> Result<(), Refusal>
         ensures answer { told (λ u. u) result ≡ send_answer (state self.now) logs.now (length holds.now) (C.Carrier.meaning carrier.old) (slip docket.now) }
-        ensures once { PutsOnce C.Carrier.puts (send_letter (state self.now) logs.now (length holds.now) (C.Carrier.meaning carrier.old).seats (slip docket.now)) (send_answer (state self.now) logs.now (length holds.now) (C.Carrier.meaning carrier.old) (slip docket.now)) carrier.old carrier.new }
+        ensures once { PutsOnce C.Carrier.puts C.Carrier.rests (send_letter (state self.now) logs.now (length holds.now) (C.Carrier.meaning carrier.old).seats (slip docket.now)) (send_answer (state self.now) logs.now (length holds.now) (C.Carrier.meaning carrier.old) (slip docket.now)) carrier.old carrier.new }
         ensures carrier { PutOf (C.Carrier.meaning carrier.old) (send_letter (state self.now) logs.now (length holds.now) (C.Carrier.meaning carrier.old).seats (slip docket.now)) (send_answer (state self.now) logs.now (length holds.now) (C.Carrier.meaning carrier.old) (slip docket.now)) (C.Carrier.meaning carrier.new) }
     {
         let letter = self.letter_to_send(logs, holds.len(), carrier.seats(), docket)?;

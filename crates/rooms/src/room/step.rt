@@ -29,7 +29,7 @@ impl Room {
         ensures step { Step (move_of ask) (moment (state self.old) logs.old holds.old (C.Carrier.meaning carrier.old)) (answer_as result) (moment (state self.new) logs.new holds.new (C.Carrier.meaning carrier.new)) }
         ensures works { WorksOn (move_of ask) (moment (state self.old) logs.old holds.old (C.Carrier.meaning carrier.old)) (answer_as result) (moment (state self.new) logs.new holds.new (C.Carrier.meaning carrier.new)) }
         ensures docket { returned result ≡ to_return (brought ask) (answer_as result) }
-        ensures carrier { Carried C.Carrier.puts (move_of ask) (moment (state self.old) logs.old holds.old (C.Carrier.meaning carrier.old)) carrier.old carrier.new }
+        ensures carrier { Carried C.Carrier.puts C.Carrier.rests (move_of ask) (moment (state self.old) logs.old holds.old (C.Carrier.meaning carrier.old)) carrier.old carrier.new }
     {
         // A step is data, listed or read from bytes: a closure in its place would have to be made by the same match.
         match ask {
@@ -61,7 +61,7 @@ impl Room {
     ) -> Result<Reply, Refusal>
         ensures step { Step asked (moment (state self.old) logs.old holds.old (C.Carrier.meaning carrier.old)) (answer_of result) (moment (state self.new) logs.new holds.new (C.Carrier.meaning carrier.new)) }
         ensures works { WorksOn asked (moment (state self.old) logs.old holds.old (C.Carrier.meaning carrier.old)) (answer_of result) (moment (state self.new) logs.new holds.new (C.Carrier.meaning carrier.new)) }
-        ensures carrier { Carried C.Carrier.puts asked (moment (state self.old) logs.old holds.old (C.Carrier.meaning carrier.old)) carrier.old carrier.new }
+        ensures carrier { Carried C.Carrier.puts C.Carrier.rests asked (moment (state self.old) logs.old holds.old (C.Carrier.meaning carrier.old)) carrier.old carrier.new }
     {
         let ask = read_in(asked);
         let answer = self.make(logs, holds, carrier, ask);

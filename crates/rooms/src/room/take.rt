@@ -1,9 +1,10 @@
 // Taking.
 ghost use Rattle.std.specs.Prelude.{◌≡◌, ◌<◌, length};
+ghost use Rattle.std.specs.Result.{OnErr};
 ghost use Rattle.letters.specs.Letters.{letter_name};
 ghost use Rattle.letters.specs.Refusals.{told};
-ghost use Rattle.carriers.specs.Meaning.{Kept, draw_answer};
-ghost use Rattle.seats.specs.Outcomes.{Take, carrier_check, take_check, taken_as, taken_holds, taken_room, taking};
+ghost use Rattle.carriers.specs.Meaning.{draw_answer};
+ghost use Rattle.seats.specs.Outcomes.{DrawRests, Take, carrier_check, take_check, taken_as, taken_holds, taken_room, taking};
 ghost use Rattle.rooms.specs.Calls.{Draws};
 ghost use Rattle.rooms.specs.States.{state};
 
@@ -26,6 +27,7 @@ fn draw_letter<B: Body, C: Carrier<Body = B>>(
 ) -> Result<Letter<B>, Refusal>
     ensures answer { told (λ m. tt) result ≡ draw_answer (C.Carrier.meaning carrier.old) seat place }
     ensures leaves { Draws result (C.Carrier.meaning carrier.old) seat place (C.Carrier.meaning carrier.new) }
+    ensures rests { OnErr result (C.Carrier.rests carrier.old carrier.new) }
 {
     let mut parts = spare.parts();
     carrier.draw(seat, place, &mut parts)?;
@@ -49,7 +51,7 @@ impl Room {
         place: u32,
     ) -> Result<Taken, Refusal>
         ensures take { Take (take_check (state self.old) (length logs.now) (length holds.old) (C.Carrier.meaning carrier.old) seat place) (state self.old) holds.old (C.Carrier.meaning carrier.old) seat place (told taken_as result) (state self.new) holds.new (C.Carrier.meaning carrier.new) }
-        ensures untouched { Kept (carrier_check (state self.old) (length logs.now) (length holds.old) (C.Carrier.meaning carrier.old).seats) carrier.old carrier.new }
+        ensures rests { DrawRests C.Carrier.rests (carrier_check (state self.old) (length logs.now) (length holds.old) (C.Carrier.meaning carrier.old).seats) (draw_answer (C.Carrier.meaning carrier.old) seat place) carrier.old carrier.new }
     {
         self.may_carry(logs.len(), holds.len(), carrier.seats())?;
         let spare = holds[0];

@@ -1,16 +1,19 @@
 use Rattle.std.proofs.Common.{◌≡◌, length, Ok, ap, ◌∙◌, subst}
-use Rattle.carriers.specs.Meaning.{Kept}
-use Rattle.seats.specs.Outcomes.{carrier_check, taken_as}
+use Rattle.carriers.specs.Meaning.{draw_answer}
+use Rattle.seats.specs.Outcomes.{DrawRests, carrier_check, taken_as}
 use Rattle.rooms.specs.States.{state}
 use Rattle.rooms.proofs.Taking.{took}
 use Rattle.rooms.proofs.room.Room.take.Goals as goal
 
-pub returns-clause-untouched : goal.returns-clause-untouched
-returns-clause-untouched g c =
+pub returns-clause-rests : goal.returns-clause-rests
+returns-clause-rests g c =
     let st = state c.args.self.now in
-    let can : Ok tt ≡ carrier_check st (length c.args.logs.now) (length c.args.holds.now) (g.C.Carrier.meaning c.args.carrier.now).seats =
-    c.in_ok-may_carry.ensures ∙ ap (carrier_check st (length c.args.logs.now) (length c.args.holds.now)) c.seats.ensures in
-    subst (λ k. Kept k c.args.carrier.now c.draw_letter.new.carrier) can tt
+    let m = g.C.Carrier.meaning c.args.carrier.now in
+    let check = carrier_check st (length c.args.logs.now) (length c.args.holds.now) in
+    let can : Ok tt ≡ check m.seats = c.in_ok-may_carry.ensures ∙ ap check c.seats.ensures in
+    let drew : Ok tt ≡ draw_answer m c.args.seat c.args.place = c.in_ok-letter.ensures.answer in
+    subst (λ k. DrawRests g.C.Carrier.rests k (draw_answer m c.args.seat c.args.place) c.args.carrier.now c.draw_letter.new.carrier) can
+    (subst (λ d. DrawRests g.C.Carrier.rests (Ok tt) d c.args.carrier.now c.draw_letter.new.carrier) drew tt)
 
 pub returns-clause-take : goal.returns-clause-take
 returns-clause-take g c =

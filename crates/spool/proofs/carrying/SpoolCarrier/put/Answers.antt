@@ -67,7 +67,7 @@ returns-then-not-is_done g c =
             (c.set_mask.ensures.letter ∙ c.write.ensures.letter, c.set_mask.ensures.mask ∙ mask_is),
       );
       long = c.set_mask.ensures.long ∙ c.write.ensures.long;
-      kept = tt;
+      rests = tt;
     }
 
 pub returns-else-not-is_done : goal.returns-else-not-is_done
@@ -89,5 +89,5 @@ returns-else-not-is_done g c =
       once = exact;
       row = (grind (arith, common_steps), λ r l. refl, λ r low high. absurd (omega arith));
       long = refl;
-      kept = tt;
+      rests = tt;
     }
