@@ -1,20 +1,21 @@
 -- What a carrier's contract tells its user.
-use Rattle.std.proofs.Common.{◌≡◌, ℕ, zero, suc, ◌<◌, List, [], ◌++◌, length, get_or, replicate, Ok, Err, Result, sym, refl, ap, ◌∙◌, subst, ⊎_elim, arith, length-append}
+use Rattle.std.proofs.Common.{inl, ◌⊎◌, ◌≡◌, ℕ, zero, suc, ◌<◌, true, false, ◌&&◌, ◌==◌, List, [], ◌++◌, length, get_or, replicate, Ok, Err, OnOk, Result, sym, refl, ap, ◌∙◌, subst, ⊎_elim, arith, length-append}
 use lib.ListN.{length-replicate}
 use Rattle.std.specs.List.{AllByRecursion as All}
+use Rattle.std.specs.Result.{OnErr}
 use Rattle.std.proofs.ByRecursion.{All-append, All-get_or, all_shuffled}
 use Rattle.std.proofs.lemmas.List.{get_or-map}
 use Rattle.std.proofs.lemmas.List.Sorted.{length_permutation}
-use Rattle.std.proofs.lemmas.Bool.{cases_eq, cases_lt, eq-eqb, le-ltb, lt-ltb, ne_eqb}
+use Rattle.std.proofs.lemmas.Bool.{and_from, and_left, and_right, cases_eq, cases_lt, eq-eqb, le-ltb, lt-ltb, ne_eqb}
 use Rattle.letters.specs.declared.letter.Letter.{Letter}
 use Rattle.letters.specs.declared.refusal.Refusal.{Refusal}
 use Rattle.letters.specs.declared.parts.Parts.{Parts}
 use Rattle.letters.specs.Letters.{parts_of}
 use Rattle.letters.specs.Refusals.{Reason, plain, told}
 use Rattle.carriers.specs.Putting.{Gains}
-use Rattle.carriers.specs.Meaning.{DrawLeaves, Empty, Kept, Lawful, Meaning, PutOn, draw_answer, put_answer}
-use Rattle.carriers.proofs.Decisions.{draw_accepted, draw_no_place, draw_no_seat, draw_ok, draw_refused, put_ok}
-use Rattle.delivery.specs.Passing.{Passes, first_answer, parts_by}
+use Rattle.carriers.specs.Meaning.{DrawLeaves, Empty, Lawful, Meaning, PutOn, put_answer, waits_at}
+use Rattle.carriers.proofs.Decisions.{put_ok}
+use Rattle.delivery.specs.Passing.{Passes, first_answer, parts_by, pass_answer}
 
 module _ {L : Type 0} (x : L) where
   only_copies : (n : ℕ) → All (λ y. y ≡ x) (replicate n x)
@@ -30,38 +31,74 @@ module _ {L : Type 0} (x : L) where
       let some : 0 < length ys = omega (arith, long, length-append copies [], length-replicate {A = L} (suc g.more) x) in
       (some, λ d. All-get_or (λ y. y ≡ x) ys 0 d some all)
 
-module _ {B : Type 0} (m : Meaning (Letter B)) (law : Lawful m) (none : Empty m) (x : Letter B) (seat : ℕ) (lent filled : Parts B) (r : Result (Unit {0}) Refusal) (after : Meaning (Letter B)) where
-  -- what is answered and filled, by an answer
-  abbrev Ends : Result (Unit {0}) Reason → Type 0
-  Ends d = (told (λ u. u) r ≡ d) × (filled ≡ parts_by d (parts_of x) lent)
+  -- a list that gained x is not empty
+  gained_some : (xs ys : List L) → Gains x xs ys → 0 < length ys
+  gained_some xs ys g =
+      let copies : List L = replicate (suc g.more) x in
+      let long : length ys ≡ length (copies ++ xs) = length_permutation (copies ++ xs) ys g.reordered in
+      omega (arith, long, length-append copies xs, length-replicate {A = L} (suc g.more) x)
 
-  -- after the put
-  drawn : (mid : Meaning (Letter B)) → x.poster < m.seats → PutOn m x.poster x mid → told (λ u. u) r ≡ draw_answer mid seat 0 → DrawLeaves parts_of r mid seat 0 after lent filled → Ends (first_answer m.seats x.poster seat)
-  drawn mid h put says left =
-      let seats = put.seats in
-      let p = x.poster in
+  -- something waits for the seat: the letter, if it is not its poster's own, or what waited there before
+  abbrev pub SomeFor : Meaning L → ℕ → ℕ → Type 0
+  SomeFor m poster seat = (¬ (seat ≡ poster)) ⊎ (0 < waits_at m seat)
+
+  pub some_waits : (m mid : Meaning L) (poster seat : ℕ) → PutOn m poster x mid → seat < m.seats → SomeFor m poster seat → 0 < waits_at mid seat
+  some_waits m mid poster seat put h some =
+      let gained : ¬ (seat ≡ poster) → 0 < waits_at mid seat = λ other. let long = gained_some (m.waiting seat) (mid.waiting seat) (put.lists.others seat h other) in omega (arith, long) in
       ⊎_elim
-      (λ here. ⊎_elim
-      (λ own.
-      let still : mid.waiting seat ≡ [] = subst (λ k. mid.waiting k ≡ []) (sym own) (put.lists.own ∙ none p) in
-      let nothing : length (mid.waiting seat) ≡ 0 = ap length still in
-      let no_place = draw_no_place mid seat 0 (omega arith) (omega arith) in
-      let d : first_answer m.seats p seat ≡ Err (plain 14) = rw (lt-ltb p m.seats h, lt-ltb seat m.seats here, eq-eqb seat p own) in
-      subst Ends (sym d) (says ∙ no_place, (draw_refused mid after parts_of seat 0 lent filled r (plain 14) (says ∙ no_place) left).1))
-      (λ other.
-      let gains : Gains x [] (mid.waiting seat) = subst (λ l. Gains x l (mid.waiting seat)) (none seat) (put.lists.others seat here other) in
-      let first = gained_first x (mid.waiting seat) gains in
-      let some = first.0 in
-      let said = says ∙ draw_ok mid seat 0 (omega arith) (omega arith) in
-      let d : first_answer m.seats p seat ≡ Ok tt = rw (lt-ltb p m.seats h, lt-ltb seat m.seats here, ne_eqb seat p other) in
-      let got = draw_accepted mid after parts_of seat 0 lent filled r said left in
-      subst Ends (sym d) (said, got.1 ∙ get_or-map parts_of (mid.waiting seat) 0 x lent some ∙ ap parts_of (first.1 x)))
-      (cases_eq seat p))
-      (λ out.
-      let no_seat = draw_no_seat mid seat 0 (omega arith) in
-      let d : first_answer m.seats p seat ≡ Err (plain 8) = rw (lt-ltb p m.seats h, le-ltb seat m.seats out) in
-      subst Ends (sym d) (says ∙ no_seat, (draw_refused mid after parts_of seat 0 lent filled r (plain 8) (says ∙ no_seat) left).1))
-      (cases_lt seat m.seats)
+      gained
+      (λ there. ⊎_elim
+      (λ own. let same : length (mid.waiting seat) ≡ length (m.waiting seat) = ap length (subst (λ k. mid.waiting k ≡ m.waiting k) (sym own) put.lists.own) in omega (arith, same))
+      gained
+      (cases_eq seat poster))
+      some
+
+  -- then putting and drawing are both accepted
+  pub pass_ok : (m : Meaning L) (poster seat : ℕ) → poster < m.seats → m.fits poster ≡ true → seat < m.seats → SomeFor m poster seat → pass_answer m poster seat ≡ Ok tt
+  pass_ok m poster seat h f l some =
+      let waits : (seat == poster && waits_at m seat == 0) ≡ false = ⊎_elim
+      (λ other. and_left _ _ (ne_eqb seat poster other))
+      (λ there. and_right _ _ (ne_eqb (waits_at m seat) 0 (λ none. absurd (omega (arith, there, none)))))
+      some in
+      rw (put_ok m poster h f, lt-ltb seat m.seats l, waits) refl
+
+-- no answer is a yes and a no
+no_yes : {w : Reason} → ◌≡◌ {A = Result (Unit {0}) Reason} (Err w) (Ok tt) → ⊥
+no_yes e = let z : ◌≡◌ {A = ℕ} 0 1 = cc in omega arith
+
+-- what follows a yes, of an answer that is one
+pub after_yes : (r : Result (Unit {0}) Refusal) (P : Type 0) → told (λ u. u) r ≡ Ok tt → OnOk r P → P
+after_yes (Ok u) P took p = p
+after_yes (Err why) P took p = absurd (no_yes took)
+
+-- and of a no there is nothing to show
+pub on_no : (r : Result (Unit {0}) Refusal) (P : Type 0) → told (λ u. u) r ≡ Ok tt → OnErr r P
+on_no (Ok u) P took = tt
+on_no (Err why) P took = absurd (no_yes took)
+
+-- a seat that is not the poster draws
+pub first_ok : (seats p seat : ℕ) → p < seats → seat < seats → ¬ (seat ≡ p) → first_answer seats p seat ≡ Ok tt
+first_ok seats p seat h here other = rw (lt-ltb p seats h, lt-ltb seat seats here, ne_eqb seat p other) refl
+
+module _ {B C : Type 0} (meaning : C → Meaning (Letter B)) (puts : C → Letter B → C → Type 0) (c : C) (x : Letter B) (seat : ℕ) (lent filled : Parts B) (after : C) where
+  -- after one put, a draw that was accepted
+  pub passed : (mid : C) (r : Result (Unit {0}) Refusal) → told (λ u. u) r ≡ Ok tt → puts c x mid → PutOn (meaning c) x.poster x (meaning mid)
+      → DrawLeaves parts_of r (meaning mid) seat 0 (meaning after) lent filled → Passes meaning puts r c x seat lent after filled
+  passed mid (Ok u) took once put left = (mid, once, put, left.0, left.1)
+  passed mid (Err why) took once put left = absurd (no_yes took)
+
+  nothing_filled : (r : Result (Unit {0}) Refusal) (why : Reason) → told (λ u. u) r ≡ Err why → Passes meaning puts r c x seat lent after filled → filled ≡ lent
+  nothing_filled (Ok u) why refused passes = absurd (no_yes (sym refused))
+  nothing_filled (Err w) why refused passes = passes.1
+
+  -- where nothing waited before, the letter is drawn by every other seat
+  own_filled : (r : Result (Unit {0}) Refusal) → told (λ u. u) r ≡ Ok tt → Empty (meaning c) → seat < (meaning c).seats → ¬ (seat ≡ x.poster)
+      → Passes meaning puts r c x seat lent after filled → filled ≡ parts_of x
+  own_filled (Ok u) took none h other (mid, once, put, drawn, fill) =
+      let gains : Gains x [] ((meaning mid).waiting seat) = subst (λ l. Gains x l ((meaning mid).waiting seat)) (none seat) (put.lists.others seat h other) in
+      let first = gained_first x ((meaning mid).waiting seat) gains in
+      fill ∙ get_or-map parts_of ((meaning mid).waiting seat) 0 x lent first.0 ∙ ap parts_of (first.1 x)
+  own_filled (Err why) took none h other passes = absurd (no_yes took)
 
 -- on a carrier with nothing waiting, a letter that is put is the first that another seat draws
 module _ {B C : Type 0} (meaning : C → Meaning (Letter B)) (puts : C → Letter B → C → Type 0) (c : C) (law : Lawful (meaning c)) (none : Empty (meaning c))
@@ -69,21 +106,36 @@ module _ {B C : Type 0} (meaning : C → Meaning (Letter B)) (puts : C → Lette
   abbrev m : Meaning (Letter B)
   m = meaning c
 
+  abbrev p : ℕ
+  p = x.poster
+
   abbrev EndsBy : Result (Unit {0}) Reason → Type 0
   EndsBy d = (told (λ u. u) r ≡ d) × (filled ≡ parts_by d (parts_of x) lent)
 
-  pub first_drawn : Passes meaning puts (put_answer m x.poster) c x seat lent r after filled → EndsBy (first_answer m.seats x.poster seat)
-  first_drawn passes = ⊎_elim
-      (λ h.
-      let p = subst (λ a. Passes meaning puts a c x seat lent r after filled) (put_ok m x.poster h (law.empty_fits none x.poster h)) passes in
-      drawn m law none x seat lent filled r (meaning after) (meaning p.0) h p.2 p.3 p.4)
-      (λ out.
-      let refused : put_answer m x.poster ≡ Err (plain 8) = rw (le-ltb x.poster m.seats out) in
-      let p = subst (λ a. Passes meaning puts a c x seat lent r after filled) refused passes in
-      let d : first_answer m.seats x.poster seat ≡ Err (plain 8) = rw (le-ltb x.poster m.seats out) in
-      subst EndsBy (sym d) (p.0, p.2))
-      (cases_lt x.poster m.seats)
+  abbrev Left : Type 0
+  Left = (told (λ u. u) r ≡ pass_answer m p seat) × Passes meaning puts r c x seat lent after filled
 
--- a yes asks nothing of memory
-pub kept_by_yes : {X E : Type 0} (before after : X) (r : Result (Unit {0}) E) → Ok tt ≡ r → Kept r before after
-kept_by_yes {X} {E} before after r e = subst (λ (a : Result (Unit {0}) E). Kept a before after) e tt
+  ends_refused : (why : Reason) → Left → pass_answer m p seat ≡ Err why → first_answer m.seats p seat ≡ Err why → EndsBy (first_answer m.seats p seat)
+  ends_refused why left pass first =
+      let no = left.0 ∙ pass in
+      subst EndsBy (sym first) (no, nothing_filled meaning puts c x seat lent filled after r why no left.1)
+
+  pub first_drawn : Left → EndsBy (first_answer m.seats p seat)
+  first_drawn left = ⊎_elim
+      (λ h. let took : put_answer m p ≡ Ok tt = put_ok m p h (law.empty_fits none p h) in
+      ⊎_elim
+      (λ here. ⊎_elim
+      (λ own.
+      let nothing : length (m.waiting seat) ≡ 0 = ap length (none seat) in
+      let zero' : waits_at m seat ≡ 0 = omega (arith, nothing) in
+      let both' : (seat == p && waits_at m seat == 0) ≡ true = and_from _ _ (eq-eqb seat p own) (eq-eqb (waits_at m seat) 0 zero') in
+      ends_refused (plain 14) left (rw (took, lt-ltb seat m.seats here, both') refl) (rw (lt-ltb p m.seats h, lt-ltb seat m.seats here, eq-eqb seat p own) refl))
+      (λ other.
+      let yes' = left.0 ∙ pass_ok x m p seat h (law.empty_fits none p h) here (inl other) in
+      let first = first_ok m.seats p seat h here other in
+      subst EndsBy (sym first) (yes', own_filled meaning puts c x seat lent filled after r yes' none here other left.1))
+      (cases_eq seat p))
+      (λ out. ends_refused (plain 8) left (rw (took, le-ltb seat m.seats out) refl) (rw (lt-ltb p m.seats h, le-ltb seat m.seats out) refl))
+      (cases_lt seat m.seats))
+      (λ out. ends_refused (plain 8) left (rw (le-ltb p m.seats out) refl) (rw (le-ltb p m.seats out) refl))
+      (cases_lt p m.seats)

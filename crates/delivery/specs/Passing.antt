@@ -1,12 +1,11 @@
 -- What comes of a put and of a draw after it.
-use Rattle.std.specs.Prelude.{◌≡◌, ℕ, not, Ok, Err, Result, ◌==◌, nat_lt}
+use Rattle.std.specs.Prelude.{◌≡◌, ℕ, not, ◌&&◌, map, Ok, Err, Result, ◌==◌, nat_lt, slice_index_or}
 use Rattle.letters.specs.declared.letter.Letter.{Letter}
-use Rattle.letters.specs.declared.refusal.Refusal.{Refusal}
 use Rattle.letters.specs.declared.parts.Parts.{Parts}
 use Rattle.letters.specs.Letters.{parts_of}
-use Rattle.letters.specs.Refusals.{Reason, told, unless}
+use Rattle.letters.specs.Refusals.{Reason, unless}
 use Rattle.carriers.specs.Lines.{lines_answer}
-use Rattle.carriers.specs.Meaning.{DrawLeaves, Meaning, PutOn, draw_answer}
+use Rattle.carriers.specs.Meaning.{Drawn, Meaning, PutOn, put_answer, waits_at}
 
 -- a first answer, and where it is a yes the one after it
 abbrev pub and_then : Result (Unit {0}) Reason → Result (Unit {0}) Reason → Result (Unit {0}) Reason
@@ -18,15 +17,23 @@ abbrev pub parts_by : {P : Type 0} → Result (Unit {0}) Reason → P → P → 
 parts_by (Ok _) new old = new
 parts_by (Err _) new old = old
 
+-- what a seat answers that draws the first letter of its list after a poster's letter was put: as the put, then as the draw. For
+-- every other seat than the poster, that letter waits.
+abbrev pub pass_answer : {L : Type 0} → Meaning L → ℕ → ℕ → Result (Unit {0}) Reason
+pass_answer m poster seat =
+    and_then (put_answer m poster)
+    (unless (nat_lt seat m.seats) 8
+    (unless (not (seat == poster && waits_at m seat == 0)) 14 (Ok tt)))
+
 -- C is the carrier: `meaning` says what it means, and `puts` what one put of it does.
 module _ {B C : Type 0} (meaning : C → Meaning (Letter B)) (puts : C → Letter B → C → Type 0) where
-  -- By the answer of the put: where it was accepted, one put led to a carrier `mid`, from which the seat drew the first that
-  -- waited there; else nothing moved. r, after and filled are what is answered and left in the end.
-  abbrev pub Passes : Result (Unit {0}) Reason → C → Letter B → ℕ → Parts B → Result (Unit {0}) Refusal → C → Parts B → Type 0
-  Passes (Ok _) c x seat lent r after filled =
+  -- By a yes, one put led to a carrier `mid`, from which the seat drew the first that waited there; by a no nothing moved. after
+  -- and filled are what is left in the end.
+  abbrev pub Passes : {E : Type 0} → Result (Unit {0}) E → C → Letter B → ℕ → Parts B → C → Parts B → Type 0
+  Passes (Ok _) c x seat lent after filled =
       (mid : C) × puts c x mid × PutOn (meaning c) x.poster x (meaning mid)
-      × (told (λ u. u) r ≡ draw_answer (meaning mid) seat 0) × DrawLeaves parts_of r (meaning mid) seat 0 (meaning after) lent filled
-  Passes (Err why) c x seat lent r after filled = (told (λ u. u) r ≡ Err why) × (meaning after ≡ meaning c) × (filled ≡ lent)
+      × Drawn (meaning mid) seat 0 (meaning after) × (filled ≡ slice_index_or (map parts_of ((meaning mid).waiting seat)) 0 lent)
+  Passes (Err _) c x seat lent after filled = (after ≡ c) × (filled ≡ lent)
 
 -- what a seat answers that draws a poster's letter from a carrier on which nothing waited before
 abbrev pub first_answer : ℕ → ℕ → ℕ → Result (Unit {0}) Reason

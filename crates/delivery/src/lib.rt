@@ -1,12 +1,11 @@
 // Delivery: what one seat puts on a carrier, another draws.
 #![tactic(auto)]
 
-ghost use Rattle.std.specs.Prelude.{◌≡◌, Ok, length, nat_lt};
+ghost use Rattle.std.specs.Prelude.{◌≡◌, length};
+ghost use Rattle.std.specs.Result.{OnErr};
 ghost use Rattle.letters.specs.Letters.{parts_of};
-ghost use Rattle.letters.specs.Refusals.{told, unless};
-ghost use Rattle.carriers.specs.Lines.{lines_answer};
-ghost use Rattle.carriers.specs.Meaning.{Kept, put_answer};
-ghost use Rattle.delivery.specs.Passing.{Passes, and_then, delivery_answer, parts_by};
+ghost use Rattle.letters.specs.Refusals.{told};
+ghost use Rattle.delivery.specs.Passing.{Passes, delivery_answer, parts_by, pass_answer};
 
 use carriers::carrier::Carrier;
 use carriers::lines::Lines;
@@ -15,20 +14,36 @@ use letters::letter::Letter;
 use letters::parts::Parts;
 use letters::refusal::Refusal;
 
-// Puts a letter on a carrier of any make, and draws what then waits first for a seat.
+// Puts a letter on a carrier of any make, and draws what then waits first for a seat. It looks first whether both will be
+// accepted, and moves nothing where one would not.
 pub fn put_and_draw<C: Carrier>(
     carrier: &mut C,
     letter: &Letter<C::Body>,
     seat: u8,
     parts: &mut Parts<C::Body>,
 ) -> Result<(), Refusal>
-    ensures { Passes C.meaning C.puts (put_answer (C.meaning carrier.old) letter.now.poster) carrier.old letter.now seat parts.old result carrier.new parts.new }
+    ensures answer { told (λ u. u) result ≡ pass_answer (C.meaning carrier.old) letter.now.poster seat }
+    ensures passes { Passes C.meaning C.puts result carrier.old letter.now seat parts.old carrier.new parts.new }
 {
-    carrier.put(letter)?;
+    let poster = letter.poster();
+    if poster >= carrier.seats() {
+        return Err(Refusal::UnknownSeat);
+    }
+    if !carrier.fits(poster) {
+        return Err(Refusal::CarrierFull);
+    }
+    if seat >= carrier.seats() {
+        return Err(Refusal::UnknownSeat);
+    }
+    // The letter itself will wait for every other seat.
+    if seat == poster && carrier.waits(seat) == 0 {
+        return Err(Refusal::UnknownPlace);
+    }
+    let _ = carrier.put(letter);
     carrier.draw(seat, 0, parts)
 }
 
-// Makes lines of lent letters, puts one letter on them and draws it at another seat.
+// Makes lines of lent letters, puts one letter on them and draws it at another seat. A refusal leaves the letters as they were.
 pub fn over_lines<B: Body>(
     places: &mut [Letter<B>],
     seats: u8,
@@ -39,11 +54,16 @@ pub fn over_lines<B: Body>(
 ) -> Result<(), Refusal>
     ensures answer { told (λ u. u) result ≡ delivery_answer seats size (length places.old) letter.now.poster seat }
     ensures filled { parts.new ≡ parts_by (delivery_answer seats size (length places.old) letter.now.poster seat) (parts_of letter.now) parts.old }
-    ensures kept { Kept (and_then (lines_answer seats size (length places.old)) (unless (nat_lt letter.now.poster seats) 8 (Ok tt))) places.old places.new }
+    ensures kept { OnErr result (places.new ≡ places.old) }
 {
     Lines::check(places, seats, size)?;
-    if letter.poster() >= seats {
+    // What lines refuse is refused before they are lent the letters.
+    let poster = letter.poster();
+    if poster >= seats || seat >= seats {
         return Err(Refusal::UnknownSeat);
+    }
+    if seat == poster {
+        return Err(Refusal::UnknownPlace);
     }
     let mut lines = Lines::new(places, seats, size);
     put_and_draw(&mut lines, letter, seat, parts)
