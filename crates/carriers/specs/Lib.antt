@@ -2,6 +2,7 @@ pub mod Putting
 pub mod Meaning
 pub mod Appending
 pub mod Resting
+pub mod Serving
 pub mod Places
 pub mod Lines
 pub mod LineLaws

@@ -3,7 +3,8 @@ use Rattle.std.proofs.Common.{◌≡◌, ℕ, suc, ◌<◌, true, false, List, [
 use Rattle.std.proofs.lemmas.Bool.{and_from, eq-eqb}
 use Rattle.std.proofs.lemmas.Bool.Decides.{nat_tests}
 use Rattle.letters.specs.declared.letter.Letter.{Letter}
-use Rattle.letters.specs.Letters.{number_of}
+use Rattle.letters.specs.Letters.{letter_name, number_of}
+use Rattle.letters.specs.Names.{name}
 use Rattle.letters.specs.Refusals.{Reason}
 use Rattle.carriers.specs.Meaning.{Meaning, PutOn}
 use Rattle.carriers.specs.Putting.{Gains}
@@ -16,7 +17,7 @@ use Rattle.seats.specs.declared.slip.Slip.{Slip}
 use Rattle.seats.specs.Outcomes.{carrier_check, first, follows, is_called, or_missing, park_answer, send_letter}
 use Rattle.seats.specs.Rooms.{RoomState, log_of, seat_at}
 use Rattle.seats.specs.Seats.{allows, clock_at, docketed, moved}
-use Rattle.lives.specs.Worked.{Moment}
+use Rattle.lives.specs.Worked.{Moment, letter_at}
 use Rattle.seats.specs.Keeping.{Sound}
 use Rattle.lives.proofs.Cut.{cut_same, cut_two}
 use Rattle.lives.proofs.Views.{at_seat, box_of, docket_moment, docket_moves, view}
@@ -48,6 +49,14 @@ three_yes (Err why) b o x e = absurd cc
 
 pub called : {B : Type 0} (p n : ℕ) (m : Letter B) → is_called p n m ≡ true → (m.poster ≡ p) × (number_of m ≡ n)
 called p n m e = (grind (arith, nat_tests), grind (arith, nat_tests))
+
+-- the letter that there is to send has the name that the docket tells
+pub letter_called : {B : Type 0} (w : Moment B) (d : Slip) (m : Letter B) → Ok m ≡ letter_at w d → letter_name m ≡ name d.seat d.number
+letter_called w d m e =
+    let log = log_of w.room w.logs d.seat in
+    let was = three_yes (carrier_check w.room (length w.logs) (length w.holds) w.carrier.seats) (park_answer w.room d) (first (is_called d.seat d.number) 0 log) m e in
+    let is = called d.seat d.number m (first_at (is_called d.seat d.number) log was.2.0 m was.2.1).passes in
+    λ i. name (is.0 i) (is.1 i)
 
 module _ {B : Type 0} (w : Moment B) (fit : Sound w.room) (c' : Meaning (Letter B)) (d : Slip) (m : Letter B)
     (e : Ok m ≡ send_letter w.room w.logs (length w.holds) w.carrier.seats d) (put : PutOn w.carrier m.poster m c') where

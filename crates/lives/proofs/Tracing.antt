@@ -26,7 +26,7 @@ module _ {B X : Type 0} (f : X → Answer) where
       traced_more (made x (f y) ∷ past) steps answers i move answer (omega arith) (omega arith) e g
 
   -- all the steps
-  traced_all : (past : Trace B) (steps : List (Move B)) (answers : List X) (i : ℕ) → length steps ≤ i
+  pub traced_all : (past : Trace B) (steps : List (Move B)) (answers : List X) (i : ℕ) → length steps ≤ i
       → traced f past (take i steps) (take i answers) ≡ traced f past steps answers
   traced_all past [] answers zero l = refl
   traced_all past [] answers (suc i) l = refl
@@ -34,13 +34,15 @@ module _ {B X : Type 0} (f : X → Answer) where
   traced_all past (x ∷ steps) [] (suc i) l = refl
   traced_all past (x ∷ steps) (y ∷ answers) (suc i) l = traced_all (made x (f y) ∷ past) steps answers i (omega arith)
 
-  -- where the first i steps led, one more leads on, once its answer is written down
-  pub leads_next : (from : Moment B) (steps : List (Move B)) (answers answers' : List X) (i : ℕ) (move : Move B) (answer : X) (w w' : Moment B)
-      → Leads from (traced f [] (take i steps) (take i answers)) w → Step move w (f answer) w'
+  -- the trace of the first i steps and one more, once its answer is written down
+  pub traced_next : (steps : List (Move B)) (answers answers' : List X) (i : ℕ) (move : Move B) (answer : X)
       → i < length steps → i < length answers → move ≡ get_or steps i move → answers' ≡ set answers i answer
-      → Leads from (traced f [] (take (i + 1) steps) (take (i + 1) answers')) w'
-  leads_next from steps answers answers' i move answer w w' led step l k e write =
-      subst (λ (trace : Trace B). Leads from trace w') (sym same) (further led step)
+      → traced f [] (take (i + 1) steps) (take (i + 1) answers') ≡ made move (f answer) ∷ traced f [] (take i steps) (take i answers)
+  traced_next steps answers answers' i move answer l k e write =
+      ap (λ (o : List X). traced f [] (take (i + 1) steps) (take (i + 1) o)) write
+      ∙ ap (λ (n : ℕ). traced f [] (take n steps) (take n (set answers i answer))) next
+      ∙ traced_more [] steps (set answers i answer) i move answer l long e at
+      ∙ ap (λ (o : List X). made move (f answer) ∷ traced f [] (take i steps) o) (take-set-le i answers i answer (omega arith))
     where
       at : answer ≡ get_or (set answers i answer) i answer
       at = sym (get_or-set_same answers i answer answer k)
@@ -51,12 +53,13 @@ module _ {B X : Type 0} (f : X → Answer) where
       next : i + 1 ≡ suc i
       next = omega arith
 
-      same : traced f [] (take (i + 1) steps) (take (i + 1) answers') ≡ made move (f answer) ∷ traced f [] (take i steps) (take i answers)
-      same =
-          ap (λ (o : List X). traced f [] (take (i + 1) steps) (take (i + 1) o)) write
-          ∙ ap (λ (n : ℕ). traced f [] (take n steps) (take n (set answers i answer))) next
-          ∙ traced_more [] steps (set answers i answer) i move answer l long e at
-          ∙ ap (λ (o : List X). made move (f answer) ∷ traced f [] (take i steps) o) (take-set-le i answers i answer (omega arith))
+  -- where the first i steps led, one more leads on
+  pub leads_next : (from : Moment B) (steps : List (Move B)) (answers answers' : List X) (i : ℕ) (move : Move B) (answer : X) (w w' : Moment B)
+      → Leads from (traced f [] (take i steps) (take i answers)) w → Step move w (f answer) w'
+      → i < length steps → i < length answers → move ≡ get_or steps i move → answers' ≡ set answers i answer
+      → Leads from (traced f [] (take (i + 1) steps) (take (i + 1) answers')) w'
+  leads_next from steps answers answers' i move answer w w' led step l k e write =
+      subst (λ (trace : Trace B). Leads from trace w') (sym (traced_next steps answers answers' i move answer l k e write)) (further led step)
 
   -- and all of them in the end
   pub leads_all : (from : Moment B) (steps : List (Move B)) (answers : List X) (i : ℕ) (w : Moment B) → length steps ≤ i

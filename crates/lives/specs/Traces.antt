@@ -82,6 +82,14 @@ by_show s (taken how i) past = past
 by_show s (showed i) past = shown s i ∷ past
 by_show s (refused why) past = past
 
+-- an accepted send put the letter that its docket names
+abbrev pub by_send : Slip → Answer → List Name → List Name
+by_send d (docket other) past = past
+by_send d done past = name d.seat d.number ∷ past
+by_send d (taken how i) past = past
+by_send d (showed i) past = past
+by_send d (refused why) past = past
+
 module _ {B : Type 0} where
   abbrev pub made : Move B → Answer → Made B
   made move answer = record { move = move; answer = answer }
@@ -130,3 +138,17 @@ module _ {B : Type 0} where
   abbrev pub postings : Trace B → List (Posting B)
   postings [] = []
   postings (step ∷ trace) = with_step step.move step.answer (postings trace)
+
+  -- the letters that were sent, after one step more
+  abbrev pub sent_by : Move B → Answer → List Name → List Name
+  sent_by (moves.Post s body) answer past = past
+  sent_by (moves.Send d) answer past = by_send d answer past
+  sent_by (moves.Park d) answer past = past
+  sent_by (moves.Collect s) answer past = past
+  sent_by (moves.Take s place) answer past = past
+  sent_by (moves.Show s) answer past = past
+
+  -- the letters of the accepted sends, by their names, the newest first
+  abbrev pub sent : Trace B → List Name
+  sent [] = []
+  sent (step ∷ trace) = sent_by step.move step.answer (sent trace)

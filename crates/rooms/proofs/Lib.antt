@@ -3,6 +3,7 @@ pub mod Posting
 pub mod Showing
 pub mod Taking
 pub mod Closing
+pub mod Serving
 pub mod Stepping
 pub mod Running
 pub mod Drawing

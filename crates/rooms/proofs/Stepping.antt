@@ -22,6 +22,8 @@ use Rattle.rooms.specs.declared.asking.Declined.{Declined}
 use Rattle.rooms.specs.declared.docket.Docket.{Docket}
 use Rattle.rooms.specs.Asked.{answer_as, brought, move_of, returned, to_return}
 use Rattle.rooms.specs.Calls.{Carried, post_room}
+use Rattle.rooms.specs.Serving.{ServesOn}
+use Rattle.rooms.proofs.Serving.{serves_on}
 
 -- a call made a step, and keeps the room worked
 abbrev pub Makes : {B : Type 0} → Move B → Moment B → traces.Answer → Moment B → Type 0
@@ -65,7 +67,8 @@ pub show_makes : {B : Type 0} {st st' : RoomState} {logs logs' holds holds' : Li
     → Makes (moves.Show s) (moment st logs holds c) (shows r) (moment st' logs' holds' c)
 show_makes s r answer room table hold = makes (record { answers = ap shows answer; room = room; logs = table; holds = hold; carrier = refl })
 
-module _ {B C : Type 0} (puts : C → Letter B → C → Type 0) (rests : C → C → Type 0) (w w' : Moment B) (c c' : C) where
+module _ {B C : Type 0} (meaning : C → Meaning (Letter B)) (puts : C → Letter B → C → Type 0) (rests : C → C → Type 0) (w w' : Moment B) (c c' : C)
+    (before : w.carrier ≡ meaning c) (after : w'.carrier ≡ meaning c') where
   -- the same of a step with a docket in hand: the docket that was brought comes back by a no, and none otherwise; and of what
   -- became of the carrier itself
   abbrev pub MakesAsked : Ask B → Result Answer Declined → Type 0
@@ -74,12 +77,13 @@ module _ {B C : Type 0} (puts : C → Letter B → C → Type 0) (rests : C → 
     works : WorksOn (move_of ask) w (answer_as r) w';
     docket : returned r ≡ to_return (brought ask) (answer_as r);
     carrier : Carried puts rests (move_of ask) w c c';
+    serves : ServesOn meaning puts rests (move_of ask) (answer_as r) c c';
   }
 
   asked_as : (ask is : Ask B) (r : Result Answer Declined) → is ≡ ask → Makes (move_of is) w (answer_as r) w' → returned r ≡ to_return (brought is) (answer_as r)
       → Carried puts rests (move_of is) w c c' → MakesAsked ask r
   asked_as ask is r e made back carried =
-      subst (λ a. MakesAsked a r) e (record { step = made.step; works = made.works; docket = back; carrier = carried })
+      subst (λ a. MakesAsked a r) e (record { step = made.step; works = made.works; docket = back; carrier = carried; serves = serves_on meaning puts rests c c' (move_of is) w w' (answer_as r) before after made.step carried })
 
   none_back : (a : Answer) (b : Option Docket) → None ≡ to_return b (answer_as (Ok a))
   none_back (answers.Docket d) b = refl

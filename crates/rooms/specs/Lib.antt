@@ -1,5 +1,6 @@
 pub mod States
 pub mod Calls
+pub mod Serving
 pub mod Reading
 pub mod Drafts
 pub mod Running

@@ -6,6 +6,7 @@ ghost use Rattle.lives.specs.Worked.{Leads, Worked, moment};
 ghost use Rattle.lives.specs.Keeps.{Keeps};
 ghost use Rattle.rooms.specs.Drafts.{draft_state, opened};
 ghost use Rattle.rooms.specs.Running.{run_check};
+ghost use Rattle.rooms.specs.Serving.{Serves};
 ghost use Rattle.rooms.specs.States.{state};
 
 use crate::draft::Draft;
@@ -49,6 +50,7 @@ pub fn run<B: Body, C: Carrier<Body = B>, K: Sheet<Body = B>>(
     ensures leads { Leads (moment (opened (draft_state draft)) logs.old holds.old (C.Carrier.meaning carrier.old)) (traced answer_of [] steps.now replies.new) (moment (state result) logs.new holds.new (C.Carrier.meaning carrier.new)) }
     ensures worked { Worked (traced answer_of [] steps.now replies.new) (moment (state result) logs.new holds.new (C.Carrier.meaning carrier.new)) }
     ensures keeps { Keeps K.Sheet.kind (traced answer_of [] steps.now replies.new) (moment (state result) logs.new holds.new (C.Carrier.meaning carrier.new)) }
+    ensures serves { Serves C.Carrier.meaning C.Carrier.puts C.Carrier.rests carrier.old (traced answer_of [] steps.now replies.new) carrier.new }
     ensures rest { drop (length steps.now) replies.new ≡ drop (length steps.now) replies.old }
 {
     let mut room = draft.open(logs, holds, carrier);
@@ -67,6 +69,7 @@ fn step_all<B: Body, C: Carrier<Body = B>>(
 )
     requires { length steps.now ≤ length replies.old }
     ensures leads { Leads (moment (state room.old) logs.old holds.old (C.Carrier.meaning carrier.old)) (traced answer_of [] steps.now replies.new) (moment (state room.new) logs.new holds.new (C.Carrier.meaning carrier.new)) }
+    ensures serves { Serves C.Carrier.meaning C.Carrier.puts C.Carrier.rests carrier.old (traced answer_of [] steps.now replies.new) carrier.new }
     ensures rest { drop (length steps.now) replies.new ≡ drop (length steps.now) replies.old }
 {
     for (i, asked) in steps.iter().enumerate() {

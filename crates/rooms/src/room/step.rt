@@ -3,6 +3,7 @@ ghost use Rattle.std.specs.Prelude.{◌≡◌};
 ghost use Rattle.lives.specs.Traces.{answer_of};
 ghost use Rattle.lives.specs.Worked.{Step, WorksOn, moment};
 ghost use Rattle.rooms.specs.Calls.{Carried};
+ghost use Rattle.rooms.specs.Serving.{ServesOn};
 ghost use Rattle.rooms.specs.Asked.{answer_as, brought, move_of, returned, to_return};
 ghost use Rattle.rooms.specs.States.{state};
 
@@ -30,6 +31,7 @@ impl Room {
         ensures works { WorksOn (move_of ask) (moment (state self.old) logs.old holds.old (C.Carrier.meaning carrier.old)) (answer_as result) (moment (state self.new) logs.new holds.new (C.Carrier.meaning carrier.new)) }
         ensures docket { returned result ≡ to_return (brought ask) (answer_as result) }
         ensures carrier { Carried C.Carrier.puts C.Carrier.rests (move_of ask) (moment (state self.old) logs.old holds.old (C.Carrier.meaning carrier.old)) carrier.old carrier.new }
+        ensures serves { ServesOn C.Carrier.meaning C.Carrier.puts C.Carrier.rests (move_of ask) (answer_as result) carrier.old carrier.new }
     {
         // A step is data, listed or read from bytes: a closure in its place would have to be made by the same match.
         match ask {
@@ -62,6 +64,7 @@ impl Room {
         ensures step { Step asked (moment (state self.old) logs.old holds.old (C.Carrier.meaning carrier.old)) (answer_of result) (moment (state self.new) logs.new holds.new (C.Carrier.meaning carrier.new)) }
         ensures works { WorksOn asked (moment (state self.old) logs.old holds.old (C.Carrier.meaning carrier.old)) (answer_of result) (moment (state self.new) logs.new holds.new (C.Carrier.meaning carrier.new)) }
         ensures carrier { Carried C.Carrier.puts C.Carrier.rests asked (moment (state self.old) logs.old holds.old (C.Carrier.meaning carrier.old)) carrier.old carrier.new }
+        ensures serves { ServesOn C.Carrier.meaning C.Carrier.puts C.Carrier.rests asked (answer_of result) carrier.old carrier.new }
     {
         let ask = read_in(asked);
         let answer = self.make(logs, holds, carrier, ask);

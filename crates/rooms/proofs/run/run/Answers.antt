@@ -24,5 +24,6 @@ returns g c =
       leads = leads;
       worked = worked;
       keeps = always_keeps g.K.Sheet.kind g.met.K.Sheet.lawful trace after worked;
+      serves = c.step_all.ensures.serves;
       rest = c.step_all.ensures.rest;
     }

@@ -1,12 +1,14 @@
-use Rattle.std.proofs.Common.{length, refl, ◌∙◌, arith, drop-set-lt}
+use Rattle.std.proofs.Common.{[], length, refl, sym, subst, ◌∙◌, arith, drop-set-lt}
 use Rattle.std.proofs.lemmas.List.{length-set}
-use Rattle.lives.specs.Traces.{answer_of}
+use Rattle.lives.specs.Traces.{Trace, answer_of}
 use Rattle.lives.specs.Worked.{nowhere}
-use Rattle.lives.proofs.Tracing.{leads_all, leads_next}
+use Rattle.lives.proofs.Tracing.{leads_all, leads_next, traced_all, traced_next}
+use Rattle.carriers.specs.Serving.{nothing}
+use Rattle.rooms.specs.Serving.{Serves}
 use Rattle.rooms.proofs.run.step_all.Goals as goal
 
 pub loop-i-init : goal.loop-i-init
-loop-i-init g c = record { led = nowhere; rest = refl; long = refl }
+loop-i-init g c = record { led = nowhere; serves = record { letters = []; served = nothing; named = refl }; rest = refl; long = refl }
 
 pub loop-i-preserved : goal.loop-i-preserved
 loop-i-preserved g c =
@@ -18,6 +20,9 @@ loop-i-preserved g c =
     record {
       led = leads_next answer_of _ steps replies _ i c.index-steps-i.result reply _ _ so_far.led c.step.ensures.step
           (omega arith) (omega (arith, so_far.long, c.requires)) c.index-steps-i.is refl;
+      serves = subst (λ (trace : Trace g.row.B.Denot). Serves g.C.Carrier.meaning g.C.Carrier.puts g.C.Carrier.rests c.args.carrier.now trace c.step.new.carrier)
+          (sym (traced_next answer_of steps replies _ i c.index-steps-i.result reply (omega arith) (omega (arith, so_far.long, c.requires)) c.index-steps-i.is refl))
+          (c.step.ensures.serves _ _ so_far.serves);
       rest = drop-set-lt (length steps) replies i reply (omega arith) ∙ so_far.rest;
       long = length-set replies i reply ∙ so_far.long;
     }
@@ -25,5 +30,7 @@ loop-i-preserved g c =
 pub returns : goal.returns
 returns g c = record {
   leads = leads_all answer_of _ c.args.steps.now c.loop-i.replies c.loop-i.i _ (omega arith) c.loop-i.invariant.led;
+  serves = subst (λ (trace : Trace g.row.B.Denot). Serves g.C.Carrier.meaning g.C.Carrier.puts g.C.Carrier.rests c.args.carrier.now trace c.loop-i.carrier)
+      (traced_all answer_of [] c.args.steps.now c.loop-i.replies c.loop-i.i (omega arith)) c.loop-i.invariant.serves;
   rest = c.loop-i.invariant.rest;
 }

@@ -1,0 +1,19 @@
+-- What the steps of a room did to the carrier itself, C, told by their trace.
+use Rattle.std.specs.Prelude.{◌≡◌, ◌∷◌, List, map}
+use Rattle.letters.specs.declared.letter.Letter.{Letter}
+use Rattle.letters.specs.Letters.{letter_name}
+use Rattle.carriers.specs.Meaning.{Meaning}
+use Rattle.carriers.specs.Serving.{Served}
+use Rattle.lives.specs.declared.moves.Move.{Move}
+use Rattle.lives.specs.Traces.{Answer, Trace, made, sent}
+
+module _ {B C : Type 0} (meaning : C → Meaning (Letter B)) (puts : C → Letter B → C → Type 0) (rests : C → C → Type 0) where
+  -- each accepted send put the letter of its docket once, and nothing else was put
+  pub record Serves (from : C) (trace : Trace B) (c : C) : Type 0 where
+    pub letters : List (Letter B)
+    pub served : Served meaning puts rests from letters c
+    pub named : map letter_name letters ≡ sent trace
+
+  -- by whatever steps the carrier came to be what it was, after this step it is by those and this one
+  abbrev pub ServesOn : Move B → Answer → C → C → Type 0
+  ServesOn move answer c c' = (from : C) (trace : Trace B) → Serves from trace c → Serves from (made move answer ∷ trace) c'
