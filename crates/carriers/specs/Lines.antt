@@ -1,5 +1,6 @@
 -- What lines hold: for each seat a queue of so many places, side by side in one list of letters.
-use Rattle.std.specs.Prelude.{ℕ, ◌*◌, Bool, ◌&&◌, ◌||◌, List, Ok, Result, ◌==◌, nat_le, nat_lt, slice_index}
+use Rattle.std.specs.Prelude.{ℕ, zero, suc, ◌+◌, ◌*◌, Bool, cond, ◌&&◌, ◌||◌, List, Ok, Result, ◌==◌, nat_le, nat_lt, slice_index, slice_set}
+use Rattle.std.specs.List.{copy_within}
 use Rattle.letters.specs.declared.letter.Letter.{Letter}
 use Rattle.letters.specs.Order.{each_below}
 use Rattle.letters.specs.Refusals.{Reason, unless}
@@ -25,3 +26,19 @@ lines_meaning seats size counts places = record {
 
 abbrev pub lines_of : {B : Type 0} → Lines B → Meaning (Letter B)
 lines_of l = lines_meaning l.seats l.size l.counts l.places.now
+
+-- the places after a letter is put for the first n seats but the poster: behind each of their queues it is written, and nothing else
+abbrev pub put_places : {L : Type 0} → ℕ → List ℕ → ℕ → L → List L → ℕ → List L
+put_places size counts poster x places zero = places
+put_places size counts poster x places (suc n) =
+    cond (n == poster)
+    (put_places size counts poster x places n)
+    (slice_set (put_places size counts poster x places n) (n * size + slice_index counts n) x)
+
+-- the whole table after an accepted put
+abbrev pub table_put : {B : Type 0} → Lines B → Letter B → List (Letter B)
+table_put l m = put_places l.size l.counts m.poster m l.places.now l.seats
+
+-- and after an accepted draw: in the seat's queue, what waits behind the place moves down by one
+abbrev pub table_drawn : {B : Type 0} → Lines B → ℕ → ℕ → List (Letter B)
+table_drawn l seat place = copy_within l.places.now (seat * l.size + (place + 1)) (seat * l.size + slice_index l.counts seat) (seat * l.size + place)

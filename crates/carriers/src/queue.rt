@@ -1,6 +1,6 @@
 // A queue in places that are lent to it, for letters of any body.
-ghost use Rattle.std.specs.Prelude.{◌≡◌, ◌+◌, ◌-◌, ◌^◌, ◌<◌, ◌≤◌, [], ◌∷◌, ◌++◌, length, take, slice_index_or};
-ghost use Rattle.std.specs.List.{remove};
+ghost use Rattle.std.specs.Prelude.{◌≡◌, ◌+◌, ◌-◌, ◌^◌, ◌<◌, ◌≤◌, [], ◌∷◌, ◌++◌, length, take, slice_index_or, slice_set};
+ghost use Rattle.std.specs.List.{copy_within, remove};
 
 use letters::letter::Letter;
 
@@ -19,6 +19,7 @@ impl<'a, B: Copy> Queue<'a, B> {
         ensures lender { self.new.places.ghost_name ≡ self.old.places.ghost_name }
         ensures count { self.new.count ≡ self.old.count + 1 }
         ensures letters { take self.new.count self.new.places.now ≡ take self.old.count self.old.places.now ++ (letter.now ∷ []) }
+        ensures table { self.new.places.now ≡ slice_set self.old.places.now self.old.count letter.now }
     {
         self.places[self.count as usize] = *letter;
         self.count += 1;
@@ -30,6 +31,7 @@ impl<'a, B: Copy> Queue<'a, B> {
         ensures lender { self.new.places.ghost_name ≡ self.old.places.ghost_name }
         ensures count { self.new.count + 1 ≡ self.old.count }
         ensures letters { take self.new.count self.new.places.now ≡ remove (take self.old.count self.old.places.now) place }
+        ensures table { self.new.places.now ≡ copy_within self.old.places.now (place + 1) self.old.count place }
         ensures taken { result ≡ slice_index_or self.old.places.now place result }
     {
         let taken = self.places[place as usize];
@@ -43,7 +45,8 @@ impl<'a, B: Copy> Queue<'a, B> {
 // One letter more at the end of the queue that these places are.
 pub(crate) fn push_to<B: Copy>(places: &mut [Letter<B>], count: u32, letter: &Letter<B>)
     requires { (count < length places.old) × (count + 1 < 2 ^ 32) }
-    ensures { take (count + 1) places.new ≡ take count places.old ++ (letter.now ∷ []) }
+    ensures letters { take (count + 1) places.new ≡ take count places.old ++ (letter.now ∷ []) }
+    ensures table { places.new ≡ slice_set places.old count letter.now }
 {
     let mut queue = Queue { places, count };
     queue.push(letter);
@@ -53,6 +56,7 @@ pub(crate) fn push_to<B: Copy>(places: &mut [Letter<B>], count: u32, letter: &Le
 pub(crate) fn remove_from<B: Copy>(places: &mut [Letter<B>], count: u32, place: u32) -> Letter<B>
     requires { (place < count) × (count ≤ length places.old) }
     ensures letters { take (count - 1) places.new ≡ remove (take count places.old) place }
+    ensures table { places.new ≡ copy_within places.old (place + 1) count place }
     ensures taken { result ≡ slice_index_or places.old place result }
 {
     let mut queue = Queue { places, count };

@@ -1,8 +1,10 @@
 -- Rows of 98 bytes and their parts.
-use Rattle.std.proofs.Common.{◌≡◌, ℕ, ◌+◌, ◌-◌, ◌*◌, ◌<◌, ◌≤◌, List, length, get_or, take, drop, set, sym, ap, ◌∙◌, arith, length-drop, length-set}
+use Rattle.std.proofs.Common.{◌≡◌, ℕ, ◌+◌, ◌-◌, ◌*◌, ◌<◌, ◌≤◌, List, ◌++◌, length, get_or, take, drop, set, sym, ap, ◌∙◌, arith, append_assoc, length-append, length-drop, length-set}
 use Rattle.std.proofs.lemmas.List.{get_or-take, get_or-drop, take-take, length-take-le, ext_get_or, take-set-le, drop-set-add, get_or-set_same, get_or-set_other, drop-drop}
 use Rattle.carriers.specs.Places.{OnlyAt}
 use Rattle.carriers.proofs.Rows.{other_queue}
+use Rattle.records.specs.Buffers.{overlaid}
+use Rattle.records.proofs.Overlays.{overlaid-after}
 use Rattle.spool.specs.Rows.{mask_of, record_part, row_at}
 
 pub byte_at : (bytes : List ℕ) (row k : ℕ) → k < 98 → get_or (row_at bytes row) k 0 ≡ get_or bytes (row * 98 + k) 0
@@ -56,3 +58,15 @@ module _ (bytes : List ℕ) (row x y : ℕ) (fits : row * 98 + 98 ≤ length byt
 -- the rows other than the one that was written
 pub kept_rows : (b a : List ℕ) (i : ℕ) → OnlyAt (i * 98) 98 b a → (r : ℕ) → (r ≡ i → ⊥) → row_at a r ≡ row_at b r
 kept_rows b a i only r ne = other_queue 98 i r 98 b a only ne (omega arith)
+
+-- bytes that are written behind others which were written, at once
+pub overlaid_behind : (b r m : List ℕ) (at n : ℕ) → at ≤ length b → length r ≡ n → overlaid (overlaid b at r) (at + n) m ≡ overlaid b at (r ++ m)
+overlaid_behind b r m at n within long =
+    let front = take at b ++ r in
+    let far : length front ≡ at + n = omega (arith, length-append (take at b) r, length-take-le at b within) in
+    let end : at + length r + length m ≡ at + length (r ++ m) = omega (arith, length-append r m) in
+    ap (λ l. overlaid l (at + n) m) (sym (append_assoc (take at b) r (drop (at + length r) b)))
+    ∙ overlaid-after front (drop (at + length r) b) m (at + n) far
+    ∙ ap (λ l. (front ++ m) ++ l) (drop-drop (length m) (at + length r) b ∙ ap (λ k. drop k b) end)
+    ∙ ap (λ l. l ++ drop (at + length (r ++ m)) b) (append_assoc (take at b) r m)
+    ∙ append_assoc (take at b) (r ++ m) (drop (at + length (r ++ m)) b)

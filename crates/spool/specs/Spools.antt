@@ -1,13 +1,16 @@
 -- What a spool means.
-use Rattle.std.specs.Prelude.{◌≡◌, ℕ, ◌+◌, ◌-◌, ◌^◌, ◌<◌, ◌≤◌, Bool, true, false, cond, ◌&&◌, List, length, Some, None, Option, Ok, Err, Result, ◌==◌, bit_xor, count_ones, nat_lt}
+use Rattle.std.specs.Prelude.{◌≡◌, ℕ, ◌+◌, ◌-◌, ◌*◌, ◌^◌, ◌<◌, ◌≤◌, Bool, true, false, cond, ◌&&◌, List, ◌++◌, length, Some, None, Option, Ok, Err, Result, ◌==◌, bit_xor, count_ones, nat_lt}
 use Rattle.letters.specs.declared.letter.Letter.{Letter}
+use Rattle.std.specs.List.{copy_within}
 use Rattle.letters.specs.Forms.{Form}
+use Rattle.letters.specs.Numbers.{bytes_of_16}
 use Rattle.carriers.specs.Meaning.{Meaning, waits_at}
 use Rattle.spool.specs.declared.Spool.{Spool}
 use Rattle.spool.specs.Decoding.{letter_of}
 use Rattle.spool.specs.Masks.{all_but}
-use Rattle.records.specs.Records.{record_of}
-use Rattle.spool.specs.Rows.{letters_at, mask_of, marks_at, picks, record_part, row_at, row_fits}
+use Rattle.records.specs.Buffers.{overlaid}
+use Rattle.records.specs.Records.{record_of, record_size}
+use Rattle.spool.specs.Rows.{letters_at, mask_of, marks_at, picks, record_part, row_at, row_fits, row_size}
 
 -- a seat's list is the rows with its bit, in row order; a letter fits where one more whole row has place
 abbrev pub spool_meaning : {L : Type 0} → (List ℕ → L) → ℕ → ℕ → List ℕ → Meaning L
@@ -33,6 +36,14 @@ StandsAt form blank s seat place None = waits_at (spool_of form blank s) seat �
 abbrev pub rows_after : ℕ → ℕ → ℕ → ℕ
 rows_after seats poster rows = cond (count_ones (all_but seats poster) == 0) rows (rows + 1)
 
+-- the whole buffer after a put: behind the rows that were there, and nowhere else, the letter's record is written with the full
+-- mask less the poster's bit
+abbrev pub bytes_after : {B : Type 0} → Form B → Spool B → Letter B → List ℕ
+bytes_after form s m =
+    cond (count_ones (all_but s.seats m.poster) == 0)
+    s.tape.bytes.now
+    (overlaid s.tape.bytes.now (s.rows * row_size) (record_of form m ++ bytes_of_16 (all_but s.seats m.poster)))
+
 -- what an accepted put does to the rows: those that were there stay, and a new one is the letter's record with the full mask
 -- less the poster's bit
 abbrev pub AddsRow : {B E : Type 0} → Form B → Result (Unit {0}) E → Spool B → Letter B → Spool B → Type 0
@@ -41,20 +52,24 @@ AddsRow form (Ok _) s m after =
     × ((r : ℕ) → r < s.rows → row_at after.tape.bytes.now r ≡ row_at s.tape.bytes.now r)
     × ((r : ℕ) → s.rows ≤ r → r < after.rows
     → (record_part (row_at after.tape.bytes.now r) ≡ record_of form m) × (mask_of (row_at after.tape.bytes.now r) ≡ all_but s.seats m.poster))
+    × (after.tape.bytes.now ≡ bytes_after form s m)
 AddsRow form (Err _) s m after = Unit {0}
 
 -- what becomes of a row when a seat's bit is taken out: where no bit is left it is removed and later rows close up, else its
--- mask lacks the bit and the other rows stay
+-- mask lacks the bit and the other rows stay; in the whole buffer, the bytes of the later rows move down, or the mask's are
+-- written, and no other byte is
 abbrev pub RowStruck : {B : Type 0} → Bool → Spool B → ℕ → ℕ → Spool B → Type 0
 RowStruck true s row seat after =
     (after.rows + 1 ≡ s.rows)
     × ((r : ℕ) → r < row → row_at after.tape.bytes.now r ≡ row_at s.tape.bytes.now r)
     × ((r : ℕ) → row ≤ r → r + 1 < s.rows → row_at after.tape.bytes.now r ≡ row_at s.tape.bytes.now (r + 1))
+    × (after.tape.bytes.now ≡ copy_within s.tape.bytes.now ((row + 1) * row_size) (s.rows * row_size) (row * row_size))
 RowStruck false s row seat after =
     (after.rows ≡ s.rows)
     × ((r : ℕ) → ¬ (r ≡ row) → row_at after.tape.bytes.now r ≡ row_at s.tape.bytes.now r)
     × (record_part (row_at after.tape.bytes.now row) ≡ record_part (row_at s.tape.bytes.now row))
     × (mask_of (row_at after.tape.bytes.now row) ≡ bit_xor (mask_of (row_at s.tape.bytes.now row)) (2 ^ seat))
+    × (after.tape.bytes.now ≡ overlaid s.tape.bytes.now (row * row_size + record_size) (bytes_of_16 (bit_xor (mask_of (row_at s.tape.bytes.now row)) (2 ^ seat))))
 
 -- the ones that are left in its mask decide it
 abbrev pub StrikesRow : {B : Type 0} → Spool B → ℕ → ℕ → Spool B → Type 0

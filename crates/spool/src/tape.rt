@@ -1,9 +1,12 @@
 // The lent buffer of a spool, row by row. It has no invariant of its own: what holds of the rows depends on their number, which the spool keeps.
 ghost use Rattle.std.specs.Prelude.{◌≡◌, ℕ, ◌+◌, ◌*◌, ◌<◌, ◌≤◌, length};
 ghost use Rattle.std.specs.Simd.{first_chunks};
+ghost use Rattle.std.specs.List.{copy_within};
 ghost use Rattle.letters.specs.Letters.{parts_of};
+ghost use Rattle.letters.specs.Numbers.{bytes_of_16};
 ghost use Rattle.carriers.specs.Places.{OnlyAt};
-ghost use Rattle.records.specs.Records.{record_of};
+ghost use Rattle.records.specs.Buffers.{overlaid};
+ghost use Rattle.records.specs.Records.{record_of, record_size};
 ghost use Rattle.spool.specs.Decoding.{blank_letter, letter_of};
 ghost use Rattle.spool.specs.Rows.{mask_of, record_part, row_at, row_size};
 
@@ -46,6 +49,7 @@ impl<'a> Tape<'a> {
         ensures only { OnlyAt (row * row_size) row_size self.old.bytes.now self.new.bytes.now }
         ensures mask { mask_of (row_at self.new.bytes.now row) ≡ mask }
         ensures letter { record_part (row_at self.new.bytes.now row) ≡ record_part (row_at self.old.bytes.now row) }
+        ensures bytes { self.new.bytes.now ≡ overlaid self.old.bytes.now (row * row_size + record_size) (bytes_of_16 mask) }
     {
         let at = row * ROW_SIZE + RECORD_SIZE;
         let [low, high] = mask.to_le_bytes();
@@ -68,6 +72,7 @@ impl<'a> Tape<'a> {
         ensures long { length self.new.bytes.now ≡ length self.old.bytes.now }
         ensures only { OnlyAt (row * row_size) row_size self.old.bytes.now self.new.bytes.now }
         ensures letter { record_part (row_at self.new.bytes.now row) ≡ record_of B.form letter.now }
+        ensures bytes { self.new.bytes.now ≡ overlaid self.old.bytes.now (row * row_size) (record_of B.form letter.now) }
     {
         let at = row * ROW_SIZE;
         write_letter(letter, &mut self.bytes[at..at + RECORD_SIZE]);
@@ -79,6 +84,7 @@ impl<'a> Tape<'a> {
         ensures long { length self.new.bytes.now ≡ length self.old.bytes.now }
         ensures before { (r : ℕ) → r < row → row_at self.new.bytes.now r ≡ row_at self.old.bytes.now r }
         ensures behind { (r : ℕ) → row ≤ r → r + 1 < rows → row_at self.new.bytes.now r ≡ row_at self.old.bytes.now (r + 1) }
+        ensures bytes { self.new.bytes.now ≡ copy_within self.old.bytes.now ((row + 1) * row_size) (rows * row_size) (row * row_size) }
     {
         self.bytes
             .copy_within((row + 1) * ROW_SIZE..rows * ROW_SIZE, row * ROW_SIZE);

@@ -1,5 +1,5 @@
 // Making lines, and lines as a carrier.
-ghost use Rattle.std.specs.Prelude.{◌≡◌, ℕ, ◌+◌, ◌<◌, [], ◌∷◌, ◌++◌, length, Ok, OnOk, slice_index, slice_index_or, slice_set};
+ghost use Rattle.std.specs.Prelude.{◌≡◌, ℕ, ◌+◌, ◌*◌, ◌<◌, [], ◌∷◌, ◌++◌, length, Ok, OnOk, slice_index, slice_index_or, slice_set};
 ghost use Rattle.std.specs.Result.{OnErr};
 ghost use Rattle.letters.specs.Letters.{parts_of};
 ghost use Rattle.letters.specs.Refusals.{told};
@@ -7,7 +7,7 @@ ghost use Rattle.carriers.specs.Meaning.{DrawLeaves, Drawn, Empty, PutLeaves, dr
 ghost use Rattle.carriers.specs.LineLaws.{lawful_lines};
 ghost use Rattle.carriers.specs.Appending.{Appends};
 ghost use Rattle.carriers.specs.Resting.{as_it_was};
-ghost use Rattle.carriers.specs.Lines.{lines_answer, lines_of};
+ghost use Rattle.carriers.specs.Lines.{lines_answer, lines_of, table_drawn, table_put};
 
 use crate::carrier::Carrier;
 use crate::lines::Lines;
@@ -62,6 +62,7 @@ impl<'a, B: Body> Lines<'a, B> {
         ensures counts { self.new.counts ≡ slice_set self.old.counts seat (slice_index self.old.counts seat + 1) }
         ensures own { (lines_of self.new).waiting seat ≡ (lines_of self.old).waiting seat ++ (letter.now ∷ []) }
         ensures others { (k : ℕ) → ¬ (k ≡ seat) → (lines_of self.new).waiting k ≡ (lines_of self.old).waiting k }
+        ensures table { self.new.places.now ≡ slice_set self.old.places.now (seat * self.old.size + slice_index self.old.counts seat) letter.now }
     {
         let at = seat as usize;
         let count = self.counts[at];
@@ -77,6 +78,7 @@ impl<'a, B: Body> Lines<'a, B> {
         ensures size { self.new.size ≡ self.old.size }
         ensures lists { Drawn (lines_of self.old) seat place (lines_of self.new) }
         ensures taken { result ≡ slice_index_or ((lines_of self.old).waiting seat) place result }
+        ensures table { self.new.places.now ≡ table_drawn self.old seat place }
     {
         let at = seat as usize;
         let count = self.counts[at];
@@ -122,6 +124,7 @@ impl<'a, B: Body> Carrier for Lines<'a, B> {
         ensures answer { told (λ u. u) result ≡ put_answer (lines_of self.old) letter.now.poster }
         ensures leaves { PutLeaves result (lines_of self.old) letter.now.poster letter.now (lines_of self.new) }
         ensures once { OnOk result (Appends (lines_of self.old) letter.now.poster letter.now (lines_of self.new)) }
+        ensures table { OnOk result (self.new.places.now ≡ table_put self.old letter.now) }
         ensures size { self.new.size ≡ self.old.size }
         ensures rests { OnErr result (self.new ≡ self.old) }
     {
@@ -144,6 +147,7 @@ impl<'a, B: Body> Carrier for Lines<'a, B> {
     fn draw(&mut self, seat: u8, place: u32, parts: &mut Parts<B>) -> Result<(), Refusal>
         ensures answer { told (λ u. u) result ≡ draw_answer (lines_of self.old) seat place }
         ensures leaves { DrawLeaves parts_of result (lines_of self.old) seat place (lines_of self.new) parts.old parts.new }
+        ensures table { OnOk result (self.new.places.now ≡ table_drawn self.old seat place) }
         ensures size { self.new.size ≡ self.old.size }
         ensures rests { OnErr result (self.new ≡ self.old) }
     {

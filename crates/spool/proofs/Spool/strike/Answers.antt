@@ -1,6 +1,8 @@
-use Rattle.std.proofs.Common.{◌≡◌, ◌*◌, ◌%◌, ◌^◌, ◌<◌, ◌≤◌, true, false, ◌==◌, count_ones, refl, sym, ap, ◌∙◌, subst, arith}
+use Rattle.std.proofs.Common.{◌≡◌, ◌+◌, ◌*◌, ◌%◌, ◌^◌, ◌<◌, ◌≤◌, true, false, ◌==◌, count_ones, refl, sym, ap, ◌∙◌, subst, arith}
 use lib.Bits.{bit_xor}
 use Rattle.std.proofs.lemmas.Bool.{eqb-false, eqb-true}
+use Rattle.letters.specs.Numbers.{bytes_of_16}
+use Rattle.records.specs.Buffers.{overlaid}
 use Rattle.spool.specs.Decoding.{letter_of}
 use Rattle.spool.specs.Rows.{mask_of, row_at}
 use Rattle.spool.proofs.Bits.{ones_some, ones_none}
@@ -98,7 +100,7 @@ returns-then-is_done-clause-row g c =
     let cut = lent_mask s.rows b _ c.rows.ensures i c.mask_of.result c.requires.row c.mask_of.ensures in
     let turned : bit_xor c.mask_of.result ((1 * 2 ^ seat) % 65536) ≡ bit_xor (mask_of (row_at b i)) (2 ^ seat) = turned_bit c.mask_of.result (mask_of (row_at b i)) seat cut (omega (arith, s.few, c.requires.seat)) in
     let none : true ≡ (count_ones (bit_xor (mask_of (row_at b i)) (2 ^ seat)) == 0) = sym c.if-is_done.true ∙ c.is_done.ensures ∙ ap (λ m. count_ones m == 0) turned in
-    struck s i seat _ true none (omega (arith, c.requires.row), e.before, e.behind)
+    struck s i seat _ true none (omega (arith, c.requires.row), e.before, e.behind, e.bytes)
 
 pub returns-else-is_done-clause-row : goal.returns-else-is_done-clause-row
 returns-else-is_done-clause-row g c =
@@ -111,4 +113,4 @@ returns-else-is_done-clause-row g c =
     let cut = lent_mask s.rows b _ c.rows.ensures i c.mask_of.result c.requires.row c.mask_of.ensures in
     let turned : bit_xor c.mask_of.result ((1 * 2 ^ seat) % 65536) ≡ bit_xor (mask_of (row_at b i)) (2 ^ seat) = turned_bit c.mask_of.result (mask_of (row_at b i)) seat cut (omega (arith, s.few, c.requires.seat)) in
     let some : false ≡ (count_ones (bit_xor (mask_of (row_at b i)) (2 ^ seat)) == 0) = sym c.if-is_done.false ∙ c.is_done.ensures ∙ ap (λ m. count_ones m == 0) turned in
-    struck s i seat _ false some (refl, kept_rows b a i e.only, e.letter, e.mask ∙ turned)
+    struck s i seat _ false some (refl, kept_rows b a i e.only, e.letter, e.mask ∙ turned, e.bytes ∙ ap (λ m. overlaid b (i * 98 + 96) (bytes_of_16 m)) turned)

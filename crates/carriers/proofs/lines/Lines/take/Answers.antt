@@ -1,7 +1,8 @@
-use Rattle.std.proofs.Common.{◌≡◌, ◌+◌, ◌*◌, ◌<◌, ◌≤◌, length, refl, ◌∙◌, arith, rules}
+use Rattle.std.proofs.Common.{◌≡◌, ◌+◌, ◌*◌, ◌<◌, ◌≤◌, length, slice_index, refl, ap, ◌∙◌, arith, rules}
+use borrow.Rule.Slice.PartMut.{put_mid}
 use Rattle.carriers.specs.LineLaws.{queue_end}
 use Rattle.carriers.proofs.Counts.{within_set, beyond_set, other_waiting, own_waiting}
-use Rattle.carriers.proofs.Rows.{cut, only_part, read_in_part, taken_out}
+use Rattle.carriers.proofs.Rows.{cut, moved_in_part, only_part, read_in_part, taken_out}
 use Rattle.carriers.proofs.lines.Lines.take.Goals as goal
 
 pub invariant_of-self-clause-within : goal.invariant_of-self-clause-within
@@ -39,3 +40,12 @@ returns-clause-taken g c =
     let start = c.args.seat * l.size in
     let fits : start + l.size ≤ length row = omega (arith, queue_end l.size c.args.seat l.seats c.requires.0, l.whole) in
     c.remove_from-letter.ensures.taken ∙ read_in_part start l.size row fits _ c.args.place _ c.requires.1 (l.within c.args.seat)
+
+pub returns-clause-table : goal.returns-clause-table
+returns-clause-table g c =
+    let l = c.args.self.now in
+    let row = l.places.now in
+    let start = c.args.seat * l.size in
+    let fits : start + l.size ≤ length row = omega (arith, queue_end l.size c.args.seat l.seats c.requires.0, l.whole) in
+    ap (put_mid start (cut start l.size row fits) row) c.remove_from-letter.ensures.table
+    ∙ moved_in_part start l.size row fits (c.args.place + 1) (slice_index l.counts c.args.seat) c.args.place (omega arith) (omega (arith, c.requires.1)) (l.within c.args.seat)

@@ -1,15 +1,18 @@
-use Rattle.std.proofs.Common.{◌≡◌, ℕ, ◌+◌, ◌*◌, ◌^◌, ◌<◌, ◌≤◌, cond, eqb, ltb, length, sym, refl, ap, ◌∙◌, subst, arith, rules}
+use Rattle.std.proofs.Common.{◌≡◌, ℕ, ◌+◌, ◌*◌, ◌^◌, ◌<◌, ◌≤◌, cond, eqb, ltb, ◌++◌, length, sym, refl, ap, ◌∙◌, subst, arith, rules}
 use lib.Count.{ones}
-use Rattle.std.proofs.lemmas.Bool.{and_parts, cond-false, eqb-false, eqb-true, leb-true}
+use Rattle.std.proofs.lemmas.Bool.{and_parts, cond-false, cond-true, eqb-false, eqb-true, leb-true}
 use Rattle.carriers.proofs.Appended.{put_appended}
 use Rattle.std.proofs.lemmas.Grind.{common_steps}
 use Rattle.spool.specs.Decoding.{letter_of}
 use Rattle.spool.specs.Masks.{all_but}
+use Rattle.letters.specs.Numbers.{bytes_of_16}
+use Rattle.records.specs.Buffers.{overlaid}
 use Rattle.records.specs.Records.{record_of}
+use Rattle.records.proofs.RoundTrip.{record_long}
 use Rattle.spool.specs.Rows.{mask_of, record_part, row_at, row_fits}
-use Rattle.spool.specs.Spools.{spool_meaning, spool_of}
+use Rattle.spool.specs.Spools.{bytes_after, spool_meaning, spool_of}
 use Rattle.spool.proofs.Bits.{ones_some, ones_none}
-use Rattle.spool.proofs.Bytes.{kept_rows}
+use Rattle.spool.proofs.Bytes.{kept_rows, overlaid_behind}
 use Rattle.spool.proofs.Decoded.{letter_back}
 use Rattle.spool.proofs.Kept.{each_written}
 use Rattle.spool.proofs.Steps.{spooled, nobody_else, but_below}
@@ -55,6 +58,13 @@ returns-then-not-is_done g c =
     (λ r l. kept_rows mid a s.rows c.set_mask.ensures.only r (omega arith) ∙ kept_rows b mid s.rows c.write.ensures.only r (omega arith))
     (c.set_mask.ensures.mask ∙ mask_is)
     (ap read (c.set_mask.ensures.letter ∙ c.write.ensures.letter) ∙ letter_back blank form g.met.B.Body.lawful x) in
+    let room : s.rows * 98 + 98 ≤ length b = leb-true _ _ (and_parts (ltb c.poster-poster.result s.seats) (row_fits s.rows (length b)) (sym c.fits.ensures ∙ c.if-not-fits.false)).1 in
+    let whole : a ≡ bytes_after form s x =
+    c.set_mask.ensures.bytes
+    ∙ ap (λ l. overlaid l (s.rows * 98 + 96) (bytes_of_16 c.all_but-mask.result)) c.write.ensures.bytes
+    ∙ overlaid_behind b (record_of form x) (bytes_of_16 c.all_but-mask.result) (s.rows * 98) 96 (omega (arith, room)) (record_long form g.met.B.Body.lawful x)
+    ∙ ap (λ k. overlaid b (s.rows * 98) (record_of form x ++ bytes_of_16 k)) mask_is
+    ∙ sym (cond-false (eqb (ones (all_but s.seats x.poster)) 0) b _ (ap (λ k. eqb (ones k) 0) (sym mask_is) ∙ sym c.is_done.ensures ∙ c.if-not-is_done.true)) in
     record {
       answer = search rules;
       leaves = put_appended m (spool_meaning read s.seats (s.rows + 1) a) x.poster x refl exact;
@@ -65,6 +75,7 @@ returns-then-not-is_done g c =
         λ r low high. let at : s.rows ≡ r = omega arith in
             subst (λ j. (record_part (row_at a j) ≡ record_of form x) × (mask_of (row_at a j) ≡ all_but s.seats x.poster)) at
             (c.set_mask.ensures.letter ∙ c.write.ensures.letter, c.set_mask.ensures.mask ∙ mask_is),
+        whole,
       );
       long = c.set_mask.ensures.long ∙ c.write.ensures.long;
       rests = tt;
@@ -87,7 +98,7 @@ returns-else-not-is_done g c =
       answer = search rules;
       leaves = put_appended m m x.poster x refl exact;
       once = exact;
-      row = (grind (arith, common_steps), λ r l. refl, λ r low high. absurd (omega arith));
+      row = (grind (arith, common_steps), λ r l. refl, λ r low high. absurd (omega arith), sym (cond-true (eqb (ones (all_but s.seats x.poster)) 0) b _ (ap (λ k. eqb (ones k) 0) (sym mask_is) ∙ sym c.is_done.ensures ∙ c.if-not-is_done.false)));
       long = refl;
       rests = tt;
     }

@@ -1,5 +1,7 @@
-use Rattle.std.proofs.Common.{◌≡◌, ◌+◌, ◌*◌, ◌≤◌, length, ap, ◌∙◌, arith, rules}
-use Rattle.std.proofs.lemmas.List.{take_all}
+use Rattle.std.proofs.Common.{◌≡◌, ◌+◌, ◌*◌, ◌≤◌, ◌++◌, length, take, drop, ap, ◌∙◌, arith, rules}
+use borrow.Rule.Slice.PartMut.{put_mid}
+use Rattle.std.proofs.lemmas.List.{drop-drop, take_all}
+use Rattle.records.specs.Records.{record_of}
 use Rattle.records.proofs.RoundTrip.{record_long}
 use Rattle.carriers.proofs.Rows.{cut, only_part, queue_in_part}
 use Rattle.spool.proofs.Bytes.{record_at, only_wider}
@@ -16,5 +18,6 @@ returns g c =
     record {
       long = search rules;
       only = only_wider at 96 98 b _ (omega arith) (only_part at 96 b fits part long);
+      bytes = ap (put_mid at (cut at 96 b fits) b) c.write_letter.ensures ∙ ap (λ l. take at b ++ (record_of g.B.Body.form c.args.letter.now ++ l)) (drop-drop (cut at 96 b fits) at b ∙ ap (λ n. drop n b) (omega (arith, record_long g.B.Body.form g.met.B.Body.lawful c.args.letter.now)));
       letter = record_at _ c.args.row ∙ queue_in_part at 96 b fits part long 96 (omega arith) ∙ take_all 96 part (omega arith) ∙ c.write_letter.ensures;
     }

@@ -3,7 +3,7 @@ use Rattle.std.proofs.lemmas.Bool.{and_parts}
 use Rattle.carriers.specs.declared.lines.Lines.{Lines}
 use Rattle.carriers.specs.Lines.{others_free}
 use Rattle.carriers.proofs.Counts.{free_at}
-use Rattle.carriers.proofs.Sending.{Sent, sent_skip, sent_more, sent_all, sent_exact}
+use Rattle.carriers.proofs.Sending.{Sent, sent_skip, sent_more, sent_all, sent_exact, sent_table}
 use Rattle.carriers.proofs.lines.carrying.LinesCarrier.put.Goals as goal
 use Rattle.carriers.proofs.lines.carrying.LinesCarrier.put.Goals.{then-other-poster, else-other-poster}
 
@@ -28,7 +28,7 @@ loop-other-preserved g c =
       | then-other-poster w ↦
           let e = w.append.ensures in
           subst (λ (s : Lines g.row.B.Denot). Sent old x (seat + 1) s) (sym w.self-is)
-          (sent_more old x seat mid c.loop-other.invariant w.append.new.self (λ same. w.if-other-poster.true (same ∙ sym c.poster-poster.ensures)) e.seats e.size e.counts e.own e.others)
+          (sent_more old x seat mid c.loop-other.invariant w.append.new.self (λ same. w.if-other-poster.true (same ∙ sym c.poster-poster.ensures)) e.seats e.size e.counts e.own e.others e.table)
       | else-other-poster w ↦
           subst (λ (s : Lines g.row.B.Denot). Sent old x (seat + 1) s) (sym w.self-is)
           (sent_skip old x seat mid c.loop-other.invariant (w.if-other-poster.false ∙ c.poster-poster.ensures))
@@ -42,4 +42,9 @@ returns-clause-leaves g c =
 pub returns-clause-once : goal.returns-clause-once
 returns-clause-once g c =
     sent_exact c.args.self.now c.args.letter.now c.loop-other.other c.loop-other.self c.loop-other.invariant
+    (omega (arith, c.loop-other.auto.other-end, c.loop-other-test.false))
+
+pub returns-clause-table : goal.returns-clause-table
+returns-clause-table g c =
+    sent_table c.args.self.now c.args.letter.now c.loop-other.other c.loop-other.self c.loop-other.invariant
     (omega (arith, c.loop-other.auto.other-end, c.loop-other-test.false))
