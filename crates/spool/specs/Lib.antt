@@ -1,4 +1,5 @@
 pub mod Masks
+pub mod MaskLaws
 pub mod Rows
 pub mod Decoding
 pub mod Spools

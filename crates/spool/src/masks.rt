@@ -1,6 +1,6 @@
 // Masks: bit i says that seat i has yet to draw.
 ghost use Rattle.std.specs.Prelude.{◌≡◌, ◌<◌, ◌≤◌, ◌==◌, count_ones};
-ghost use Rattle.spool.specs.Masks.{all_but, full, marked};
+ghost use Rattle.spool.specs.Masks.{all_but, full, marked, seats_marked};
 
 // Entry n is the mask of n seats, 2^n - 1.
 const FULL_MASKS: [u16; 17] = [
@@ -33,7 +33,8 @@ pub(crate) fn marks(mask: u16, seat: u8) -> bool
 
 // Whether no seat has yet to draw.
 pub(crate) fn is_done(mask: u16) -> bool
-    ensures { result ≡ (count_ones mask == 0) }
+    ensures ones { result ≡ (count_ones mask == 0) }
+    ensures seats { result ≡ (seats_marked mask 16 == 0) }
 {
     mask.count_ones() == 0
 }

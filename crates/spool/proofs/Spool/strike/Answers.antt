@@ -50,7 +50,7 @@ invariant_of-self-else-is_done g c =
     let e = c.set_mask.ensures in
     let cut = lent_mask s.rows b _ c.rows.ensures i c.mask_of.result c.requires.row c.mask_of.ensures in
     let turned : mask_of (row_at a i) ≡ bit_xor (mask_of (row_at b i)) (2 ^ seat) = e.mask ∙ turned_bit c.mask_of.result (mask_of (row_at b i)) seat cut (omega (arith, s.few, c.requires.seat)) in
-    let some : 0 < mask_of (row_at a i) = subst (λ m. 0 < m) (sym e.mask) (ones_some _ (eqb-false _ _ (sym c.is_done.ensures ∙ c.if-is_done.false))) in
+    let some : 0 < mask_of (row_at a i) = subst (λ m. 0 < m) (sym e.mask) (ones_some _ (eqb-false _ _ (sym c.is_done.ensures.ones ∙ c.if-is_done.false))) in
     let few : mask_of (row_at a i) < 2 ^ s.seats = subst (λ m. m < 2 ^ s.seats) (sym turned) (turned_below s.seats (mask_of (row_at b i)) seat (s.seated i c.requires.row) c.requires.seat) in
     let same = kept_rows b a i e.only in
     record {
@@ -74,7 +74,7 @@ returns-then-is_done-clause-lists g c =
     let cut = lent_mask s.rows b _ c.rows.ensures i c.mask_of.result c.requires.row c.mask_of.ensures in
     let turned : bit_xor c.mask_of.result ((1 * 2 ^ seat) % 65536) ≡ bit_xor (mask_of (row_at b i)) (2 ^ seat) = turned_bit c.mask_of.result (mask_of (row_at b i)) seat cut (omega (arith, s.few, c.requires.seat)) in
     let few : bit_xor c.mask_of.result ((1 * 2 ^ seat) % 65536) < 2 ^ s.seats = subst (λ m. m < 2 ^ s.seats) (sym turned) (turned_below s.seats (mask_of (row_at b i)) seat (s.seated i c.requires.row) c.requires.seat) in
-    let none : bit_xor (mask_of (row_at b i)) (2 ^ seat) ≡ 0 = sym turned ∙ ones_none s.seats _ (eqb-true _ _ (sym c.is_done.ensures ∙ c.if-is_done.true)) few in
+    let none : bit_xor (mask_of (row_at b i)) (2 ^ seat) ≡ 0 = sym turned ∙ ones_none s.seats _ (eqb-true _ _ (sym c.is_done.ensures.ones ∙ c.if-is_done.true)) few in
     drawn_row read s.seats s.rows b a seat i c.requires.row c.requires.marked e.before e.behind none
 
 pub returns-else-is_done-clause-lists : goal.returns-else-is_done-clause-lists
@@ -99,7 +99,7 @@ returns-then-is_done-clause-row g c =
     let e = c.close_up.ensures in
     let cut = lent_mask s.rows b _ c.rows.ensures i c.mask_of.result c.requires.row c.mask_of.ensures in
     let turned : bit_xor c.mask_of.result ((1 * 2 ^ seat) % 65536) ≡ bit_xor (mask_of (row_at b i)) (2 ^ seat) = turned_bit c.mask_of.result (mask_of (row_at b i)) seat cut (omega (arith, s.few, c.requires.seat)) in
-    let none : true ≡ (count_ones (bit_xor (mask_of (row_at b i)) (2 ^ seat)) == 0) = sym c.if-is_done.true ∙ c.is_done.ensures ∙ ap (λ m. count_ones m == 0) turned in
+    let none : true ≡ (count_ones (bit_xor (mask_of (row_at b i)) (2 ^ seat)) == 0) = sym c.if-is_done.true ∙ c.is_done.ensures.ones ∙ ap (λ m. count_ones m == 0) turned in
     struck s i seat _ true none (omega (arith, c.requires.row), e.before, e.behind, e.bytes)
 
 pub returns-else-is_done-clause-row : goal.returns-else-is_done-clause-row
@@ -112,5 +112,5 @@ returns-else-is_done-clause-row g c =
     let e = c.set_mask.ensures in
     let cut = lent_mask s.rows b _ c.rows.ensures i c.mask_of.result c.requires.row c.mask_of.ensures in
     let turned : bit_xor c.mask_of.result ((1 * 2 ^ seat) % 65536) ≡ bit_xor (mask_of (row_at b i)) (2 ^ seat) = turned_bit c.mask_of.result (mask_of (row_at b i)) seat cut (omega (arith, s.few, c.requires.seat)) in
-    let some : false ≡ (count_ones (bit_xor (mask_of (row_at b i)) (2 ^ seat)) == 0) = sym c.if-is_done.false ∙ c.is_done.ensures ∙ ap (λ m. count_ones m == 0) turned in
+    let some : false ≡ (count_ones (bit_xor (mask_of (row_at b i)) (2 ^ seat)) == 0) = sym c.if-is_done.false ∙ c.is_done.ensures.ones ∙ ap (λ m. count_ones m == 0) turned in
     struck s i seat _ false some (refl, kept_rows b a i e.only, e.letter, e.mask ∙ turned, e.bytes ∙ ap (λ m. overlaid b (i * 98 + 96) (bytes_of_16 m)) turned)

@@ -29,7 +29,7 @@ invariant_of-self g c =
     let long : length a ≡ length b = c.set_mask.ensures.long ∙ c.write.ensures.long in
     let room : s.rows * 98 + 98 ≤ length b = leb-true _ _ (and_parts (ltb poster s.seats) (row_fits s.rows (length b)) (sym c.fits.ensures ∙ c.if-not-fits.false)).1 in
     let is : mask_of (row_at a s.rows) ≡ mask = c.set_mask.ensures.mask in
-    let some : 0 < mask = ones_some _ (eqb-false _ _ (sym c.is_done.ensures ∙ c.if-not-is_done.true)) in
+    let some : 0 < mask = ones_some _ (eqb-false _ _ (sym c.is_done.ensures.ones ∙ c.if-not-is_done.true)) in
     let few : mask < 2 ^ s.seats = subst (λ m. m < 2 ^ s.seats) (sym c.all_but-mask.ensures) (but_below s.seats poster c.if-poster-self.false) in
     let same : (r : ℕ) → ¬ (r ≡ s.rows) → row_at a r ≡ row_at b r = λ r ne. kept_rows mid a s.rows c.set_mask.ensures.only r ne ∙ kept_rows b mid s.rows c.write.ensures.only r ne in
     record {
@@ -64,13 +64,13 @@ returns-then-not-is_done g c =
     ∙ ap (λ l. overlaid l (s.rows * 98 + 96) (bytes_of_16 c.all_but-mask.result)) c.write.ensures.bytes
     ∙ overlaid_behind b (record_of form x) (bytes_of_16 c.all_but-mask.result) (s.rows * 98) 96 (omega (arith, room)) (record_long form g.met.B.Body.lawful x)
     ∙ ap (λ k. overlaid b (s.rows * 98) (record_of form x ++ bytes_of_16 k)) mask_is
-    ∙ sym (cond-false (eqb (ones (all_but s.seats x.poster)) 0) b _ (ap (λ k. eqb (ones k) 0) (sym mask_is) ∙ sym c.is_done.ensures ∙ c.if-not-is_done.true)) in
+    ∙ sym (cond-false (eqb (ones (all_but s.seats x.poster)) 0) b _ (ap (λ k. eqb (ones k) 0) (sym mask_is) ∙ sym c.is_done.ensures.ones ∙ c.if-not-is_done.true)) in
     record {
       answer = search rules;
       leaves = put_appended m (spool_meaning read s.seats (s.rows + 1) a) x.poster x refl exact;
       once = exact;
       row = (
-        sym (ap (λ n. cond (eqb (ones n) 0) s.rows (s.rows + 1)) (sym mask_is) ∙ cond-false _ _ _ (sym c.is_done.ensures ∙ c.if-not-is_done.true)),
+        sym (ap (λ n. cond (eqb (ones n) 0) s.rows (s.rows + 1)) (sym mask_is) ∙ cond-false _ _ _ (sym c.is_done.ensures.ones ∙ c.if-not-is_done.true)),
         λ r l. kept_rows mid a s.rows c.set_mask.ensures.only r (omega arith) ∙ kept_rows b mid s.rows c.write.ensures.only r (omega arith),
         λ r low high. let at : s.rows ≡ r = omega arith in
             subst (λ j. (record_part (row_at a j) ≡ record_of form x) × (mask_of (row_at a j) ≡ all_but s.seats x.poster)) at
@@ -92,13 +92,13 @@ returns-else-not-is_done g c =
     let m = spool_of form blank s in
     let mask_is : c.all_but-mask.result ≡ all_but s.seats x.poster = c.all_but-mask.ensures ∙ ap (all_but s.seats) is in
     let few : c.all_but-mask.result < 2 ^ s.seats = subst (λ m. m < 2 ^ s.seats) (sym c.all_but-mask.ensures) (but_below s.seats c.poster-poster.result c.if-poster-self.false) in
-    let none : c.all_but-mask.result ≡ 0 = ones_none s.seats _ (eqb-true _ _ (sym c.is_done.ensures ∙ c.if-not-is_done.false)) few in
+    let none : c.all_but-mask.result ≡ 0 = ones_none s.seats _ (eqb-true _ _ (sym c.is_done.ensures.ones ∙ c.if-not-is_done.false)) few in
     let exact = nobody_else (letter_of form blank) s.seats s.rows b x.poster x (subst (λ p. p < s.seats) is c.if-poster-self.false) (sym mask_is ∙ none) in
     record {
       answer = search rules;
       leaves = put_appended m m x.poster x refl exact;
       once = exact;
-      row = (grind (arith, common_steps), λ r l. refl, λ r low high. absurd (omega arith), sym (cond-true (eqb (ones (all_but s.seats x.poster)) 0) b _ (ap (λ k. eqb (ones k) 0) (sym mask_is) ∙ sym c.is_done.ensures ∙ c.if-not-is_done.false)));
+      row = (grind (arith, common_steps), λ r l. refl, λ r low high. absurd (omega arith), sym (cond-true (eqb (ones (all_but s.seats x.poster)) 0) b _ (ap (λ k. eqb (ones k) 0) (sym mask_is) ∙ sym c.is_done.ensures.ones ∙ c.if-not-is_done.false)));
       long = refl;
       rests = tt;
     }

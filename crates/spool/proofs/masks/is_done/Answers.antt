@@ -1,0 +1,8 @@
+use Rattle.std.proofs.Common.{◌<◌, ◌^◌, ◌==◌, ap, rules}
+use Rattle.spool.specs.MaskLaws.{ones_seats}
+use Rattle.spool.proofs.masks.is_done.Goals as goal
+
+pub returns-clause-seats : goal.returns-clause-seats
+returns-clause-seats c =
+    let fits : c.args.mask < 2 ^ 16 = search rules in
+    ap (λ n. n == 0) (ones_seats 16 c.args.mask fits)
