@@ -1,9 +1,9 @@
 -- How many letters wait in each queue of lines, and what a step on one queue does to the others.
-use Rattle.std.proofs.Common.{◌≡◌, ℕ, zero, suc, ◌*◌, ◌<◌, ◌≤◌, true, ◌||◌, eqb, ltb, ◌≢◌, List, length, get_or, set, sym, ap, ◌∙◌, subst, ⊎_elim, arith}
+use Rattle.std.proofs.Common.{◌≡◌, ℕ, ◌*◌, ◌<◌, ◌≤◌, ◌≢◌, List, length, get_or, set, sym, ap, ◌∙◌, subst, ⊎_elim, arith}
 use Rattle.std.proofs.lemmas.List.{get_or-set_same, get_or-set_other, set_past}
-use Rattle.std.proofs.lemmas.Bool.{cases_eq, cases_lt, ltb-true, eqb-true, and_parts, or_cases}
+use Rattle.std.proofs.lemmas.Bool.{cases_eq, cases_lt}
 use Rattle.carriers.specs.Places.{OnlyAt, part_at}
-use Rattle.carriers.specs.Lines.{others_free, lines_meaning}
+use Rattle.carriers.specs.Lines.{lines_meaning}
 use Rattle.carriers.proofs.Rows.{other_queue}
 
 -- the counts after one is set
@@ -20,19 +20,6 @@ pub beyond_set : (counts : List ℕ) (at v seats : ℕ) → at < seats → ((k :
 beyond_set counts at v seats h all k le =
     let other : k ≢ at = omega arith in
     get_or-set_other counts at k v 0 other ∙ all k le
-
--- a poster for whom the first n seats have place
-pub free_at : (counts : List ℕ) (size poster n k : ℕ) → others_free counts size poster n ≡ true → k < n → ¬ (k ≡ poster) → get_or counts k 0 < size
-free_at counts size poster zero k r h ne = absurd (omega arith)
-free_at counts size poster (suc n) k r h ne =
-    let parts = and_parts (eqb n poster || ltb (get_or counts n 0) size) (others_free counts size poster n) r in
-    ⊎_elim
-    (λ same. ⊎_elim
-    (λ e. absurd (ne (same ∙ eqb-true _ _ e)))
-    (λ l. subst (λ i. get_or counts i 0 < size) (sym same) (ltb-true _ _ l))
-    (or_cases (eqb n poster) (ltb (get_or counts n 0) size) parts.0))
-    (λ other. free_at counts size poster n k parts.1 (omega arith) ne)
-    (cases_eq k n)
 
 -- a step on the queue of one seat, which writes only its places and sets its count
 module _ {L : Type 0} (seats size : ℕ) (counts : List ℕ) (row row' : List L) (at v : ℕ) (only : OnlyAt (at * size) size row row') where

@@ -1,12 +1,12 @@
 -- Lines are lawful.
-use Rattle.std.specs.Prelude.{◌≡◌, ℕ, zero, suc, ◌+◌, ◌*◌, ◌<◌, ◌≤◌, true, List, length, take, drop, ◌==◌, slice_index, refl}
-use Rattle.std.proofs.Common.{ap, ⊎_elim, arith, suc-mul, mul-le-mul_right, length-drop}
+use Rattle.std.specs.Prelude.{◌≡◌, Decides, ℕ, zero, suc, ◌+◌, ◌*◌, ◌<◌, ◌≤◌, true, ◌||◌, List, length, take, drop, ◌==◌, nat_lt, slice_index, refl}
+use Rattle.std.proofs.Common.{ap, sym, subst, ◌∙◌, ⊎_elim, arith, suc-mul, mul-le-mul_right, length-drop}
 use Rattle.std.proofs.lemmas.List.{length-take-le}
-use Rattle.std.proofs.lemmas.Bool.{cases_eq, lt-ltb, le-ltb, eq-eqb, and_from, and_left, or_left, or_right}
+use Rattle.std.proofs.lemmas.Bool.{cases_eq, lt-ltb, le-ltb, ltb-true, eq-eqb, eqb-true, and_from, and_left, and_parts, or_cases, or_left, or_right}
 use Rattle.carriers.specs.declared.lines.Lines.{Lines}
 use Rattle.carriers.specs.Meaning.{Lawful}
 use Rattle.carriers.specs.Places.{part_at}
-use Rattle.carriers.specs.Lines.{others_free, lines_of}
+use Rattle.carriers.specs.Lines.{HasPlaces, lines_of, others_free}
 
 -- a queue ends before a later one begins
 pub queue_end : (size at other : ℕ) → at < other → at * size + size ≤ other * size
@@ -27,9 +27,23 @@ free_more counts size poster n here r = and_from _ _
     (cases_eq n poster))
     r
 
-free_all : (counts : List ℕ) (size poster n : ℕ) → ((k : ℕ) → k < n → slice_index counts k < size) → others_free counts size poster n ≡ true
+-- each of them has, but for the poster
+free_all : (counts : List ℕ) (size poster n : ℕ) → ((k : ℕ) → k < n → ¬ (k ≡ poster) → slice_index counts k < size) → others_free counts size poster n ≡ true
 free_all counts size poster zero all = refl
-free_all counts size poster (suc n) all = free_more counts size poster n (λ _. all n (omega arith)) (free_all counts size poster n (λ k h. all k (omega arith)))
+free_all counts size poster (suc n) all = free_more counts size poster n (all n (omega arith)) (free_all counts size poster n (λ k h. all k (omega arith)))
+
+-- the others have where the test says so
+pub free_at : (counts : List ℕ) (size poster n k : ℕ) → others_free counts size poster n ≡ true → k < n → ¬ (k ≡ poster) → slice_index counts k < size
+free_at counts size poster zero k r h ne = absurd (omega arith)
+free_at counts size poster (suc n) k r h ne =
+    let parts = and_parts ((n == poster) || nat_lt (slice_index counts n) size) (others_free counts size poster n) r in
+    ⊎_elim
+    (λ same. ⊎_elim
+    (λ e. absurd (ne (same ∙ eqb-true _ _ e)))
+    (λ l. subst (λ i. slice_index counts i < size) (sym same) (ltb-true _ _ l))
+    (or_cases (n == poster) (nat_lt (slice_index counts n) size) parts.0))
+    (λ other. free_at counts size poster n k parts.1 (omega arith) ne)
+    (cases_eq k n)
 
 module _ {B : Type 0} (l : Lines B) where
   pub length_waiting : (k : ℕ) → k < l.seats → length ((lines_of l).waiting k) ≡ slice_index l.counts k
@@ -42,8 +56,18 @@ module _ {B : Type 0} (l : Lines B) where
     no_waiting = λ k h. ap (λ n. take n (drop (k * l.size) l.places.now)) (l.beyond k h);
     no_fits = λ k h. and_left _ _ (le-ltb k l.seats h);
     empty_fits = λ none p h. and_from _ _ (lt-ltb p l.seats h)
-        (free_all l.counts l.size p l.seats (λ k lt.
+        (free_all l.counts l.size p l.seats (λ k lt ne.
         let nothing : length ((lines_of l).waiting k) ≡ 0 = ap length (none k) in
         let sized = l.sized in
         omega (arith, length_waiting k lt, nothing)));
   }
+
+  -- that a letter fits is said of the lists
+  pub fits_decides : (p : ℕ) → Decides ((lines_of l).fits p) (HasPlaces l p)
+  fits_decides p = (
+    λ fits.
+        let parts = and_parts (nat_lt p l.seats) (others_free l.counts l.size p l.seats) fits in
+        (ltb-true _ _ parts.0, λ k h ne. let free = free_at l.counts l.size p l.seats k parts.1 h ne in omega (arith, length_waiting k h, free)),
+    λ has. and_from _ _ (lt-ltb p l.seats has.0)
+        (free_all l.counts l.size p l.seats (λ k h ne. let free = has.1 k h ne in omega (arith, length_waiting k h, free))),
+  )

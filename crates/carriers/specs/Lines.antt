@@ -1,5 +1,5 @@
 -- What lines hold: for each seat a queue of so many places, side by side in one list of letters.
-use Rattle.std.specs.Prelude.{ℕ, zero, suc, ◌+◌, ◌*◌, Bool, cond, ◌&&◌, ◌||◌, List, Ok, Result, ◌==◌, nat_le, nat_lt, slice_index, slice_set}
+use Rattle.std.specs.Prelude.{◌≡◌, ℕ, zero, suc, ◌+◌, ◌*◌, ◌<◌, Bool, cond, ◌&&◌, ◌||◌, List, length, Ok, Result, ◌==◌, nat_le, nat_lt, slice_index, slice_set}
 use Rattle.std.specs.List.{copy_within}
 use Rattle.letters.specs.declared.letter.Letter.{Letter}
 use Rattle.letters.specs.Order.{each_below}
@@ -26,6 +26,10 @@ lines_meaning seats size counts places = record {
 
 abbrev pub lines_of : {B : Type 0} → Lines B → Meaning (Letter B)
 lines_of l = lines_meaning l.seats l.size l.counts l.places.now
+
+-- a poster's letter has place: the poster is a seat, and the list of each other seat is shorter than its queue
+abbrev pub HasPlaces : {B : Type 0} → Lines B → ℕ → Type 0
+HasPlaces l poster = (poster < l.seats) × ((k : ℕ) → k < l.seats → ¬ (k ≡ poster) → length ((lines_of l).waiting k) < l.size)
 
 -- the places after a letter is put for the first n seats but the poster: behind each of their queues it is written, and nothing else
 abbrev pub put_places : {L : Type 0} → ℕ → List ℕ → ℕ → L → List L → ℕ → List L

@@ -1,5 +1,5 @@
 // Making lines, and lines as a carrier.
-ghost use Rattle.std.specs.Prelude.{◌≡◌, ℕ, ◌+◌, ◌*◌, ◌<◌, [], ◌∷◌, ◌++◌, length, Ok, OnOk, slice_index, slice_index_or, slice_set};
+ghost use Rattle.std.specs.Prelude.{◌≡◌, ℕ, ◌+◌, ◌*◌, ◌<◌, Decides, [], ◌∷◌, ◌++◌, length, Ok, OnOk, slice_index, slice_index_or, slice_set};
 ghost use Rattle.std.specs.Result.{OnErr};
 ghost use Rattle.letters.specs.Letters.{parts_of};
 ghost use Rattle.letters.specs.Refusals.{told};
@@ -7,7 +7,7 @@ ghost use Rattle.carriers.specs.Meaning.{DrawLeaves, Drawn, Empty, PutLeaves, dr
 ghost use Rattle.carriers.specs.LineLaws.{lawful_lines};
 ghost use Rattle.carriers.specs.Appending.{Appends};
 ghost use Rattle.carriers.specs.Resting.{as_it_was};
-ghost use Rattle.carriers.specs.Lines.{lines_answer, lines_of, table_drawn, table_put};
+ghost use Rattle.carriers.specs.Lines.{HasPlaces, lines_answer, lines_of, table_drawn, table_put};
 
 use crate::carrier::Carrier;
 use crate::lines::Lines;
@@ -115,7 +115,10 @@ impl<'a, B: Body> Carrier for Lines<'a, B> {
         }
     }
 
-    fn fits(&self, poster: u8) -> bool {
+    fn fits(&self, poster: u8) -> bool
+        ensures answer { result ≡ (lines_of self.now).fits poster }
+        ensures decides { Decides result (HasPlaces self.now poster) }
+    {
         poster < self.seats
             && (0..self.seats).all(|seat| seat == poster || self.queued(seat) < self.size)
     }

@@ -2,7 +2,7 @@ use Rattle.std.proofs.Common.{◌≡◌, ◌+◌, ◌<◌, true, ltb, get_or, sy
 use Rattle.std.proofs.lemmas.Bool.{and_parts}
 use Rattle.carriers.specs.declared.lines.Lines.{Lines}
 use Rattle.carriers.specs.Lines.{others_free}
-use Rattle.carriers.proofs.Counts.{free_at}
+use Rattle.carriers.specs.LineLaws.{free_at}
 use Rattle.carriers.proofs.Sending.{Sent, sent_skip, sent_more, sent_all, sent_exact, sent_table}
 use Rattle.carriers.proofs.lines.carrying.LinesCarrier.put.Goals as goal
 use Rattle.carriers.proofs.lines.carrying.LinesCarrier.put.Goals.{then-other-poster, else-other-poster}
@@ -13,7 +13,7 @@ append-requires g c =
     let sent = c.loop-other.invariant in
     let seat = c.loop-other.other in
     let poster = c.poster-poster.result in
-    let all : others_free old.counts old.size poster old.seats ≡ true = (and_parts (ltb poster old.seats) (others_free old.counts old.size poster old.seats) (sym c.fits.ensures ∙ c.if-not-fits.false)).1 in
+    let all : others_free old.counts old.size poster old.seats ≡ true = (and_parts (ltb poster old.seats) (others_free old.counts old.size poster old.seats) (sym c.fits.ensures.answer ∙ c.if-not-fits.false)).1 in
     let free : get_or old.counts seat 0 < old.size = free_at old.counts old.size poster old.seats seat all c.loop-other-test.true c.if-other-poster.true in
     let same = sent.counts seat (omega arith) in
     (omega (arith, sent.seats, c.loop-other-test.true), omega (arith, free, same, sent.size))
