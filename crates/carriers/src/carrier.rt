@@ -23,8 +23,8 @@ pub trait Carrier {
     // meaning; each make of carrier says here what its own one put does.
     ghost puts: { Self → Letter Self.Body → Self → Type 0 };
 
-    // What a refused put or draw leaves of the carrier itself, of lent memory too: each make of carrier says here how much
-    // of it stays, beyond what it means.
+    // What a refused put or draw leaves of the carrier itself, with memory that is lent to it. Each make of carrier says here
+    // how much of it stays; a carrier may say no more than that it means what it meant, and none says less.
     ghost rests: { Self → Self → Type 0 };
 
     ghost still: { (c after : Self) → rests c after → meaning after ≡ meaning c };
