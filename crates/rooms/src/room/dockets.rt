@@ -1,5 +1,5 @@
 // Dockets: parking one, and collecting it again.
-ghost use Rattle.std.specs.Prelude.{◌≡◌, ◌<◌};
+ghost use Rattle.std.specs.Prelude.{◌≡◌, ◌<◌, IfOk, true};
 ghost use Rattle.letters.specs.Refusals.{told};
 ghost use Rattle.seats.specs.declared.seat.DocketEvent.TheVariants.{Park, Collect};
 ghost use Rattle.seats.specs.Outcomes.{collect_answer, docket_room, good_slip, park_answer};
@@ -20,13 +20,24 @@ impl Room {
         ensures docket { ComesBack docket result }
         ensures room { state self.new ≡ docket_room (state self.old) docket.seat Park (park_answer (state self.old) (slip docket)) }
     {
-        if !self.knows(&docket) {
-            return Err(Returned {
-                docket,
-                refusal: Refusal::WrongDocket,
-            });
+        match self.park_slip(docket.slip()) {
+            Ok(()) => {
+                let _ = docket.into_slip();
+                Ok(())
+            }
+            Err(refusal) => Err(Returned { docket, refusal }),
         }
-        self.note_docket(docket.into_slip().seat, DocketEvent::Park);
+    }
+
+    // The same, by the numbers of the docket.
+    pub(crate) fn park_slip(&mut self, slip: Slip) -> Result<(), Refusal>
+        ensures answer { told (λ u. u) result ≡ park_answer (state self.old) slip }
+        ensures room { state self.new ≡ docket_room (state self.old) slip.seat Park (park_answer (state self.old) slip) }
+    {
+        if !self.knows(slip) {
+            return Err(Refusal::WrongDocket);
+        }
+        self.note_docket(slip.seat, DocketEvent::Park);
         Ok(())
     }
 
@@ -34,13 +45,22 @@ impl Room {
     pub fn collect(&mut self, seat: u8) -> Result<Docket, Refusal>
         ensures answer { told slip result ≡ collect_answer (state self.old) seat }
         ensures room { state self.new ≡ docket_room (state self.old) seat Collect (collect_answer (state self.old) seat) }
+        ensures good { IfOk result (λ docket. good_slip (state self.new) (slip docket) ≡ true) }
+    {
+        Ok(Docket::of(self.collect_slip(seat)?))
+    }
+
+    // The same, by the numbers of the docket: nobody has the docket yet.
+    pub(crate) fn collect_slip(&mut self, seat: u8) -> Result<Slip, Refusal>
+        ensures answer { told (λ slip. slip) result ≡ collect_answer (state self.old) seat }
+        ensures room { state self.new ≡ docket_room (state self.old) seat Collect (collect_answer (state self.old) seat) }
     {
         let mut poster = self.seat(seat)?;
         if !poster.move_docket(DocketEvent::Collect) {
             return Err(Refusal::NotParked);
         }
         self.tell(seat, poster);
-        Ok(Docket::of(self.newest(seat, &poster)))
+        Ok(self.newest(seat, &poster))
     }
 
     // What the docket of the newest letter says that seat s posted, which is copied out.
@@ -54,11 +74,10 @@ impl Room {
         }
     }
 
-    // Whether a docket is out at this room.
-    pub(crate) fn knows(&self, docket: &Docket) -> bool
-        ensures { result ≡ good_slip (state self.now) (slip docket.now) }
+    // Whether the docket of these numbers is out at this room, to be sent or parked.
+    pub(crate) fn knows(&self, slip: Slip) -> bool
+        ensures { result ≡ good_slip (state self.now) slip }
     {
-        let slip = docket.slip();
         let Ok(mut poster) = self.seat(slip.seat) else {
             return false;
         };

@@ -1,7 +1,7 @@
 // Posting.
-ghost use Rattle.std.specs.Prelude.{◌≡◌, length};
+ghost use Rattle.std.specs.Prelude.{◌≡◌, IfOk, true, length};
 ghost use Rattle.letters.specs.Refusals.{told};
-ghost use Rattle.seats.specs.Outcomes.{PostLogs, post_answer};
+ghost use Rattle.seats.specs.Outcomes.{PostLogs, good_slip, post_answer};
 ghost use Rattle.rooms.specs.Calls.{post_room};
 ghost use Rattle.rooms.specs.States.{slip, state};
 
@@ -12,6 +12,7 @@ use letters::letter::Letter;
 use letters::refusal::Refusal;
 use seats::parts::put;
 use seats::seat::DocketEvent;
+use seats::slip::Slip;
 
 impl Room {
     // Posts a letter with the next clock of its seat, adds it at the foot of the seat's log and answers its docket.
@@ -26,6 +27,22 @@ impl Room {
         ensures answer { told slip result ≡ post_answer (state self.old) (length logs.old) (length holds.now) seat }
         ensures room { state self.new ≡ post_room (state self.old) (post_answer (state self.old) (length logs.old) (length holds.now) seat) seat }
         ensures logs { PostLogs (state self.old) (post_answer (state self.old) (length logs.old) (length holds.now) seat) seat body logs.old logs.new }
+        ensures good { IfOk result (λ docket. good_slip (state self.new) (slip docket) ≡ true) }
+    {
+        Ok(Docket::of(self.post_slip(logs, holds, seat, body)?))
+    }
+
+    // The same, by the numbers of the docket: nobody has the docket yet.
+    pub(crate) fn post_slip<B: Body>(
+        &mut self,
+        logs: &mut [Letter<B>],
+        holds: &[Letter<B>],
+        seat: u8,
+        body: B,
+    ) -> Result<Slip, Refusal>
+        ensures answer { told (λ slip. slip) result ≡ post_answer (state self.old) (length logs.old) (length holds.now) seat }
+        ensures room { state self.new ≡ post_room (state self.old) (post_answer (state self.old) (length logs.old) (length holds.now) seat) seat }
+        ensures logs { PostLogs (state self.old) (post_answer (state self.old) (length logs.old) (length holds.now) seat) seat body logs.old logs.new }
     {
         let mut poster = self.visit(logs.len(), holds.len(), seat)?;
         let foot = self.foot(seat, &poster);
@@ -37,6 +54,6 @@ impl Room {
         }
         put(logs, foot, Letter::make(poster.clock, seat, body));
         self.tell(seat, poster);
-        Ok(Docket::of(self.newest(seat, &poster)))
+        Ok(self.newest(seat, &poster))
     }
 }

@@ -30,46 +30,64 @@ impl Room {
         ensures once { PutsOnce C.Carrier.puts C.Carrier.rests (send_letter (state self.old) logs.now (length holds.now) (C.Carrier.meaning carrier.old).seats (slip docket)) (send_answer (state self.old) logs.now (length holds.now) (C.Carrier.meaning carrier.old) (slip docket)) carrier.old carrier.new }
         ensures carrier { PutOf (C.Carrier.meaning carrier.old) (send_letter (state self.old) logs.now (length holds.now) (C.Carrier.meaning carrier.old).seats (slip docket)) (send_answer (state self.old) logs.now (length holds.now) (C.Carrier.meaning carrier.old) (slip docket)) (C.Carrier.meaning carrier.new) }
     {
-        match self.put_letter(logs, holds, carrier, &docket) {
+        match self.send_slip(logs, holds, carrier, docket.slip()) {
             Ok(()) => {
-                self.note_docket(docket.into_slip().seat, DocketEvent::Send);
+                let _ = docket.into_slip();
                 Ok(())
             }
             Err(refusal) => Err(Returned { docket, refusal }),
         }
     }
 
-    // Puts the letter that a docket is for on the carrier.
+    // The same, by the numbers of the docket.
+    pub(crate) fn send_slip<B: Body, C: Carrier<Body = B>>(
+        &mut self,
+        logs: &[Letter<B>],
+        holds: &[Letter<B>],
+        carrier: &mut C,
+        slip: Slip,
+    ) -> Result<(), Refusal>
+        ensures answer { told (λ u. u) result ≡ send_answer (state self.old) logs.now (length holds.now) (C.Carrier.meaning carrier.old) slip }
+        ensures room { state self.new ≡ docket_room (state self.old) slip.seat Send (send_answer (state self.old) logs.now (length holds.now) (C.Carrier.meaning carrier.old) slip) }
+        ensures once { PutsOnce C.Carrier.puts C.Carrier.rests (send_letter (state self.old) logs.now (length holds.now) (C.Carrier.meaning carrier.old).seats slip) (send_answer (state self.old) logs.now (length holds.now) (C.Carrier.meaning carrier.old) slip) carrier.old carrier.new }
+        ensures carrier { PutOf (C.Carrier.meaning carrier.old) (send_letter (state self.old) logs.now (length holds.now) (C.Carrier.meaning carrier.old).seats slip) (send_answer (state self.old) logs.now (length holds.now) (C.Carrier.meaning carrier.old) slip) (C.Carrier.meaning carrier.new) }
+    {
+        self.put_letter(logs, holds, carrier, slip)?;
+        self.note_docket(slip.seat, DocketEvent::Send);
+        Ok(())
+    }
+
+    // Puts the letter of the docket of these numbers on the carrier.
     fn put_letter<B: Body, C: Carrier<Body = B>>(
         &self,
         logs: &[Letter<B>],
         holds: &[Letter<B>],
         carrier: &mut C,
-        docket: &Docket,
+        slip: Slip,
     ) -> Result<(), Refusal>
-        ensures answer { told (λ u. u) result ≡ send_answer (state self.now) logs.now (length holds.now) (C.Carrier.meaning carrier.old) (slip docket.now) }
-        ensures once { PutsOnce C.Carrier.puts C.Carrier.rests (send_letter (state self.now) logs.now (length holds.now) (C.Carrier.meaning carrier.old).seats (slip docket.now)) (send_answer (state self.now) logs.now (length holds.now) (C.Carrier.meaning carrier.old) (slip docket.now)) carrier.old carrier.new }
-        ensures carrier { PutOf (C.Carrier.meaning carrier.old) (send_letter (state self.now) logs.now (length holds.now) (C.Carrier.meaning carrier.old).seats (slip docket.now)) (send_answer (state self.now) logs.now (length holds.now) (C.Carrier.meaning carrier.old) (slip docket.now)) (C.Carrier.meaning carrier.new) }
+        ensures answer { told (λ u. u) result ≡ send_answer (state self.now) logs.now (length holds.now) (C.Carrier.meaning carrier.old) slip }
+        ensures once { PutsOnce C.Carrier.puts C.Carrier.rests (send_letter (state self.now) logs.now (length holds.now) (C.Carrier.meaning carrier.old).seats slip) (send_answer (state self.now) logs.now (length holds.now) (C.Carrier.meaning carrier.old) slip) carrier.old carrier.new }
+        ensures carrier { PutOf (C.Carrier.meaning carrier.old) (send_letter (state self.now) logs.now (length holds.now) (C.Carrier.meaning carrier.old).seats slip) (send_answer (state self.now) logs.now (length holds.now) (C.Carrier.meaning carrier.old) slip) (C.Carrier.meaning carrier.new) }
     {
-        let letter = self.letter_to_send(logs, holds.len(), carrier.seats(), docket)?;
+        let letter = self.letter_to_send(logs, holds.len(), carrier.seats(), slip)?;
         carrier.put(letter)
     }
 
-    // The letter that a docket is for.
+    // The letter of the docket of these numbers.
     fn letter_to_send<'t, B: Body>(
         &self,
         logs: &'t [Letter<B>],
         holds: usize,
         seats: u8,
-        docket: &Docket,
+        slip: Slip,
     ) -> Result<&'t Letter<B>, Refusal>
-        ensures { told (λ m. m.now) result ≡ send_letter (state self.now) logs.now holds seats (slip docket.now) }
+        ensures { told (λ m. m.now) result ≡ send_letter (state self.now) logs.now holds seats slip }
     {
         self.may_carry(logs.len(), holds, seats)?;
-        if !self.knows(docket) {
+        if !self.knows(slip) {
             return Err(Refusal::WrongDocket);
         }
-        let Slip { seat, number, .. } = docket.slip();
+        let Slip { seat, number, .. } = slip;
         let log = self.log_part(logs, seat, &self.seats[seat as usize]);
         let Some((_, letter)) = find_named(log, seat, number) else {
             return Err(Refusal::LetterMissing);

@@ -8,7 +8,6 @@ ghost use Rattle.rooms.specs.Asked.{answer_as, brought, move_of, returned, to_re
 ghost use Rattle.rooms.specs.States.{state};
 
 use crate::asking::{Answer, Ask, Declined};
-use crate::docket::Docket;
 use crate::room::Room;
 use carriers::carrier::Carrier;
 use letters::body::Body;
@@ -52,8 +51,8 @@ impl Room {
         }
     }
 
-    // The same, with a docket brought by its numbers, and told by them: a list of steps is plain data. It stays within the
-    // crate, where `run` makes lists of steps: outside it nobody works a room by numbers, and so past a docket.
+    // The same, of a docket that nobody has in hand: it is brought and told by its numbers, so that a list of steps is plain
+    // data. It stays within the crate, where `run` makes lists of steps.
     pub(crate) fn step<B: Body, C: Carrier<Body = B>>(
         &mut self,
         logs: &mut [Letter<B>],
@@ -62,43 +61,25 @@ impl Room {
         asked: Move<B>,
     ) -> Result<Reply, Refusal>
         ensures step { Step asked (moment (state self.old) logs.old holds.old (C.Carrier.meaning carrier.old)) (answer_of result) (moment (state self.new) logs.new holds.new (C.Carrier.meaning carrier.new)) }
-        ensures works { WorksOn asked (moment (state self.old) logs.old holds.old (C.Carrier.meaning carrier.old)) (answer_of result) (moment (state self.new) logs.new holds.new (C.Carrier.meaning carrier.new)) }
         ensures carrier { Carried C.Carrier.puts C.Carrier.rests asked (moment (state self.old) logs.old holds.old (C.Carrier.meaning carrier.old)) carrier.old carrier.new }
-        ensures serves { ServesOn C.Carrier.meaning C.Carrier.puts C.Carrier.rests asked (answer_of result) carrier.old carrier.new }
     {
-        let ask = read_in(asked);
-        let answer = self.make(logs, holds, carrier, ask);
-        write_out(answer)
-    }
-}
-
-// The step with the docket of these numbers. It is no `From`: outside the crate nobody can make a docket.
-fn read_in<B: Body>(asked: Move<B>) -> Ask<B>
-    ensures { move_of result ≡ asked }
-{
-    match asked {
-        Move::Post(seat, body) => Ask::Post(seat, body),
-        Move::Send(slip) => Ask::Send(Docket::of(slip)),
-        Move::Park(slip) => Ask::Park(Docket::of(slip)),
-        Move::Collect(seat) => Ask::Collect(seat),
-        Move::Take(seat, place) => Ask::Take(seat, place),
-        Move::Show(seat) => Ask::Show(seat),
-    }
-}
-
-// The answer with the numbers of its docket. Those of a docket that comes back are the asker's already. It is no `From`:
-// outside the crate nobody can let a docket fall.
-fn write_out(answer: Result<Answer, Declined>) -> Result<Reply, Refusal>
-    ensures { answer_of result ≡ answer_as answer }
-{
-    match answer {
-        Ok(Answer::Docket(docket)) => Ok(Reply::Docket(docket.into_slip())),
-        Ok(Answer::Done) => Ok(Reply::Done),
-        Ok(Answer::Taken(taken)) => Ok(Reply::Taken(taken)),
-        Ok(Answer::Shown(id)) => Ok(Reply::Shown(id)),
-        Err(Declined { refusal, docket }) => {
-            let _ = docket.map(Docket::into_slip);
-            Err(refusal)
+        match asked {
+            Move::Post(seat, body) => {
+                Ok(Reply::Docket(self.post_slip(logs, holds, seat, body)?))
+            }
+            Move::Send(slip) => {
+                self.send_slip(logs, holds, carrier, slip)?;
+                Ok(Reply::Done)
+            }
+            Move::Park(slip) => {
+                self.park_slip(slip)?;
+                Ok(Reply::Done)
+            }
+            Move::Collect(seat) => Ok(Reply::Docket(self.collect_slip(seat)?)),
+            Move::Take(seat, place) => {
+                Ok(Reply::Taken(self.take(logs, holds, carrier, seat, place)?))
+            }
+            Move::Show(seat) => Ok(Reply::Shown(self.show(logs, holds, seat)?)),
         }
     }
 }

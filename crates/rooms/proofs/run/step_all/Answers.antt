@@ -5,6 +5,7 @@ use Rattle.lives.specs.Worked.{nowhere}
 use Rattle.lives.proofs.Tracing.{leads_all, leads_next, traced_all, traced_next}
 use Rattle.carriers.specs.Serving.{nothing}
 use Rattle.rooms.specs.Serving.{Serves}
+use Rattle.rooms.proofs.Serving.{serves_on}
 use Rattle.rooms.proofs.run.step_all.Goals as goal
 
 pub loop-i-init : goal.loop-i-init
@@ -22,7 +23,7 @@ loop-i-preserved g c =
           (omega arith) (omega (arith, so_far.long, c.requires)) c.index-steps-i.is refl;
       serves = subst (λ (trace : Trace g.row.B.Denot). Serves g.C.Carrier.meaning g.C.Carrier.puts g.C.Carrier.rests c.args.carrier.now trace c.step.new.carrier)
           (sym (traced_next answer_of steps replies _ i c.index-steps-i.result reply (omega arith) (omega (arith, so_far.long, c.requires)) c.index-steps-i.is refl))
-          (c.step.ensures.serves _ _ so_far.serves);
+          (serves_on g.C.Carrier.meaning g.C.Carrier.puts g.C.Carrier.rests _ _ _ _ _ _ refl refl c.step.ensures.step c.step.ensures.carrier _ _ so_far.serves);
       rest = drop-set-lt (length steps) replies i reply (omega arith) ∙ so_far.rest;
       long = length-set replies i reply ∙ so_far.long;
     }

@@ -1,20 +1,12 @@
-use Rattle.std.proofs.Common.{◌≡◌, ◌≤◌, length, refl, ap, rules}
+use Rattle.std.proofs.Common.{refl, ap}
 use Rattle.std.proofs.lemmas.Result.{err_from_is_err_and}
 use Rattle.lives.specs.declared.moves.Move.TheVariants.{Post}
 use Rattle.lives.specs.Traces.{dockets}
 use Rattle.lives.specs.Worked.{further, moment, nowhere}
 use Rattle.rooms.specs.States.{slip, state}
 use Rattle.branch.specs.Desks.{standing}
-use Rattle.branch.proofs.Dispatching.{dispatch_follows, post_good}
+use Rattle.branch.proofs.Dispatching.{dispatch_follows}
 use Rattle.branch.proofs.desk.Desk.post.Goals as goal
-
-pub dispatch-requires : goal.dispatch-requires
-dispatch-requires g c =
-    let w = standing g.C.Carrier.meaning c.args.self.now in
-    let sized : length w.room.seats ≡ 16 = search rules in
-    let few : w.room.count ≤ 16 = search rules in
-    post_good w.room (state c.post.new.self) sized few (length w.logs) (length w.holds) c.args.seat (slip c.in_ok-docket.docket) c.in_ok-docket.ensures.answer
-    c.post.ensures.room
 
 pub returns-in_err-docket : goal.returns-in_err-docket
 returns-in_err-docket g c =

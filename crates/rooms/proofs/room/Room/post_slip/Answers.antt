@@ -6,7 +6,7 @@ use Rattle.seats.specs.Seats.{log_length}
 use Rattle.rooms.specs.States.{state}
 use Rattle.rooms.proofs.Posting.{post_logged}
 use Rattle.rooms.proofs.Rooms.{says}
-use Rattle.rooms.proofs.room.Room.post.Goals as goal
+use Rattle.rooms.proofs.room.Room.post_slip.Goals as goal
 
 pub returns-clause-logs : goal.returns-clause-logs
 returns-clause-logs g c =
