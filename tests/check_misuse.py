@@ -115,7 +115,7 @@ STEP = misuse(
         "rooms::room::Room",
         "seats::slip::Slip",
     ],
-    "(room: &mut Room, logs: &mut [Letter<Job>], holds: &mut [Letter<Job>], lines: &mut Lines<Job>, slip: Slip) -> Result<Reply, Refusal>",
+    "(room: &mut Room, logs: &mut [Letter<Job>], holds: &mut [Letter<Job>], lines: &mut Lines<Job>, slip: Slip) -> Result<Reply<Slip>, Refusal>",
     "    room.step(logs, holds, lines, Move::Send(slip))\n",
 )
 

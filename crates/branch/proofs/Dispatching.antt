@@ -11,7 +11,7 @@ use Rattle.branch.specs.declared.outcome.Outcome.TheVariants as outcomes
 use Rattle.branch.specs.Turns.{Dispatched, Follows, docket_calls}
 
 -- the calls of a step: the one that answers the docket, and those that spend it
-pub dispatch_follows : (move : Move Job) (d : Slip) (w mid w' : Moment Job) (o : Outcome) → Step move w (docket d) mid → Dispatched d mid o w'
+pub dispatch_follows : (move : Move Job Slip) (d : Slip) (w mid w' : Moment Job) (o : Outcome) → Step move w (docket d) mid → Dispatched d mid o w'
     → Follows (docket_calls move (Ok o)) w w'
 dispatch_follows move d w mid w' (outcomes.Sent e) step sent =
     further (further nowhere (subst (λ x. Step move w (docket x) mid) (sym sent.0) step)) (subst (λ x. SendStep x mid done w') (sym sent.0) sent.1)

@@ -17,7 +17,7 @@ use Rattle.branch.specs.declared.outcome.Outcome.TheVariants as outcomes
 
 -- The calls on the room, with their answers and the newest first, by which a step has its outcome; none where it cannot have it.
 -- A post or a collect answers a docket, which is sent, and parked where that is refused.
-abbrev pub docket_calls : Move Job → Result Outcome Refusal → Option (Trace Job)
+abbrev pub docket_calls : Move Job Slip → Result Outcome Refusal → Option (Trace Job)
 docket_calls move (Ok (outcomes.Sent d)) = Some (made (Send d) done ∷ made move (docket d) ∷ [])
 docket_calls move (Ok (outcomes.Parked d why)) =
     Some (made (Park d) done ∷ made (Send d) (refused (reason why)) ∷ made move (docket d) ∷ [])
@@ -25,14 +25,14 @@ docket_calls move (Ok (outcomes.Taken t)) = None
 docket_calls move (Ok (outcomes.Shown id)) = None
 docket_calls move (Err why) = Some (made move (refused (reason why)) ∷ [])
 
-abbrev pub take_calls : Move Job → Result Outcome Refusal → Option (Trace Job)
+abbrev pub take_calls : Move Job Slip → Result Outcome Refusal → Option (Trace Job)
 take_calls move (Ok (outcomes.Sent d)) = None
 take_calls move (Ok (outcomes.Parked d why)) = None
 take_calls move (Ok (outcomes.Taken t)) = Some (made move (taken (taken_as t).0 (taken_as t).1) ∷ [])
 take_calls move (Ok (outcomes.Shown id)) = None
 take_calls move (Err why) = Some (made move (refused (reason why)) ∷ [])
 
-abbrev pub show_calls : Move Job → Result Outcome Refusal → Option (Trace Job)
+abbrev pub show_calls : Move Job Slip → Result Outcome Refusal → Option (Trace Job)
 show_calls move (Ok (outcomes.Sent d)) = None
 show_calls move (Ok (outcomes.Parked d why)) = None
 show_calls move (Ok (outcomes.Taken t)) = None

@@ -9,6 +9,7 @@ use Rattle.sheets.specs.Sheets.{Kind, draw_up_outcome, drawn_up}
 use Rattle.seats.specs.Outcomes.{first_ready}
 use Rattle.seats.specs.Rooms.{RoomState, hold_of, seat_at}
 use Rattle.seats.specs.Seats.{clock_at}
+use Rattle.seats.specs.declared.slip.Slip.{Slip}
 use Rattle.lives.specs.declared.moves.Move.{Move}
 use Rattle.lives.specs.Traces.{Answer, Trace}
 use Rattle.lives.specs.Worked.{Moment, Opened, Step, Worked, WorksOn, further, nowhere}
@@ -21,7 +22,7 @@ pub worked_first : {B : Type 0} (w : Moment B) → Opened w → Worked [] w
 worked_first w opens = record { first = w; opened = opens; led = nowhere }
 
 -- a step keeps the room worked
-pub works_on : {B : Type 0} (move : Move B) (w : Moment B) (answer : Answer) (w' : Moment B) → Step move w answer w' → WorksOn move w answer w'
+pub works_on : {B : Type 0} (move : Move B Slip) (w : Moment B) (answer : Answer) (w' : Moment B) → Step move w answer w' → WorksOn move w answer w'
 works_on move w answer w' step trace was = record { first = was.first; opened = was.opened; led = further was.led step }
 
 -- where a show finds nothing, nothing held is ready

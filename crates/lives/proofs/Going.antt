@@ -64,7 +64,7 @@ module _ {B : Type 0} (trace : Trace B) (w w' : Moment B) (lives : Lives trace w
   st = w.room
 
   -- a step that leads to u, and neither posts nor shows
-  quiet_on : (move : Move B) (answer' : Answer) → happened move answer' (events trace) ≡ events trace → with_step move answer' (postings trace) ≡ postings trace
+  quiet_on : (move : Move B Slip) (answer' : Answer) → happened move answer' (events trace) ≡ events trace → with_step move answer' (postings trace) ≡ postings trace
       → (u : Moment B) → Sound u.room → start u.room u.room.count ≤ length u.logs → start u.room u.room.count ≤ length u.holds
       → Run u.room.count u.room.quota (view u) lives.past
       → Lives (made move answer' ∷ trace) u
@@ -79,7 +79,7 @@ module _ {B : Type 0} (trace : Trace B) (w w' : Moment B) (lives : Lives trace w
   }
 
   -- a docket that moves
-  docket_on : (move : Move B) (answer' : Answer) → happened move answer' (events trace) ≡ events trace → with_step move answer' (postings trace) ≡ postings trace
+  docket_on : (move : Move B Slip) (answer' : Answer) → happened move answer' (events trace) ≡ events trace → with_step move answer' (postings trace) ≡ postings trace
       → (s : ℕ) (inside : s < st.count) (event : DocketEvent) (c' : Meaning (Letter B))
       → steps.Step st.count st.quota (view w) (view (docket_moment w lives.fit s inside event c')) []
       → answer ≡ answer' → w'.room ≡ with_seat st s (docketed (seat_at st s) event) → w'.logs ≡ w.logs → w'.holds ≡ w.holds → w'.carrier ≡ c'
@@ -92,7 +92,7 @@ module _ {B : Type 0} (trace : Trace B) (w w' : Moment B) (lives : Lives trace w
       (runs.more lives.run step))
 
   -- a step that was refused
-  refused_on : (move : Move B) (why : Reason) → happened move (refused why) (events trace) ≡ events trace → with_step move (refused why) (postings trace) ≡ postings trace
+  refused_on : (move : Move B Slip) (why : Reason) → happened move (refused why) (events trace) ≡ events trace → with_step move (refused why) (postings trace) ≡ postings trace
       → answer ≡ refused why → w'.room ≡ st → w'.logs ≡ w.logs → w'.holds ≡ w.holds → w'.carrier ≡ w.carrier
       → Lives (made move answer ∷ trace) w'
   refused_on move why no-event no-posting is room logs holds carrier =
@@ -240,7 +240,7 @@ module _ {B : Type 0} (trace : Trace B) (w w' : Moment B) (lives : Lives trace w
   took_on s place (Err why) e r is so logs =
       refused_on (moves.Take s place) why refl refl (is ∙ ap takes so.answer) so.room logs so.hold so.carrier
 
-  pub goes_on : (move : Move B) → Step move w answer w' → Lives (made move answer ∷ trace) w'
+  pub goes_on : (move : Move B Slip) → Step move w answer w' → Lives (made move answer ∷ trace) w'
   goes_on (moves.Post s body) p = posted_on s body _ refl p.answers p.room p.logs p.holds p.carrier
   goes_on (moves.Send d) p = sent_on d _ refl p.answers p.room p.logs p.holds p.carrier
   goes_on (moves.Park d) p = parked_on d _ refl p.answers p.room p.logs p.holds p.carrier

@@ -6,6 +6,7 @@ use Rattle.causality.specs.History.{History, posted_letters, told}
 use Rattle.causality.specs.Runs.{Run}
 use Rattle.seats.specs.Keeping.{Sound}
 use Rattle.seats.specs.Rooms.{start}
+use Rattle.seats.specs.declared.slip.Slip.{Slip}
 use Rattle.lives.specs.declared.moves.Move.{Move}
 use Rattle.lives.specs.Traces.{Answer, Posting, Trace, events, made, posting, postings}
 use Rattle.lives.specs.Worked.{Moment}
@@ -26,7 +27,7 @@ module _ {B : Type 0} where
     pub events_are : told letter_name past ≡ events trace
     pub postings_are : map given (posted_letters past) ≡ postings trace
 
-  module _ (trace : Trace B) (w : Moment B) (move : Move B) (answer : Answer) where
+  module _ (trace : Trace B) (w : Moment B) (move : Move B Slip) (answer : Answer) where
     -- a step that was seen to lead to w
     pub arrives : (answer' : Answer) (w' : Moment B) → answer' ≡ answer → w' ≡ w → Lives (made move answer ∷ trace) w → Lives (made move answer' ∷ trace) w'
     arrives answer' w' a e lives =

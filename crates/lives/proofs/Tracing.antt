@@ -1,6 +1,7 @@
 -- Steps made one after the other, and the trace of them.
 use Rattle.std.proofs.Common.{◌≡◌, ℕ, zero, suc, ◌+◌, ◌<◌, ◌≤◌, List, [], ◌∷◌, ◌++◌, length, get_or, take, set, sym, refl, ap, ◌∙◌, subst, arith}
 use Rattle.std.proofs.lemmas.List.{get_or-set_same, take-set-le, length-set}
+use Rattle.seats.specs.declared.slip.Slip.{Slip}
 use Rattle.lives.specs.declared.moves.Move.{Move}
 use Rattle.lives.specs.Traces.{Answer, Trace, made, traced}
 use Rattle.lives.specs.Worked.{Leads, Moment, Step, Worked, further, nowhere}
@@ -16,7 +17,7 @@ worked_more was led = record { first = was.first; opened = was.opened; led = lea
 
 module _ {B X : Type 0} (f : X → Answer) where
   -- one step more
-  traced_more : (past : Trace B) (steps : List (Move B)) (answers : List X) (i : ℕ) (move : Move B) (answer : X) → i < length steps → i < length answers
+  traced_more : (past : Trace B) (steps : List (Move B Slip)) (answers : List X) (i : ℕ) (move : Move B Slip) (answer : X) → i < length steps → i < length answers
       → move ≡ get_or steps i move → answer ≡ get_or answers i answer
       → traced f past (take (suc i) steps) (take (suc i) answers) ≡ made move (f answer) ∷ traced f past (take i steps) (take i answers)
   traced_more past [] answers i move answer l k e g = absurd (omega arith)
@@ -26,7 +27,7 @@ module _ {B X : Type 0} (f : X → Answer) where
       traced_more (made x (f y) ∷ past) steps answers i move answer (omega arith) (omega arith) e g
 
   -- all the steps
-  pub traced_all : (past : Trace B) (steps : List (Move B)) (answers : List X) (i : ℕ) → length steps ≤ i
+  pub traced_all : (past : Trace B) (steps : List (Move B Slip)) (answers : List X) (i : ℕ) → length steps ≤ i
       → traced f past (take i steps) (take i answers) ≡ traced f past steps answers
   traced_all past [] answers zero l = refl
   traced_all past [] answers (suc i) l = refl
@@ -35,7 +36,7 @@ module _ {B X : Type 0} (f : X → Answer) where
   traced_all past (x ∷ steps) (y ∷ answers) (suc i) l = traced_all (made x (f y) ∷ past) steps answers i (omega arith)
 
   -- the trace of the first i steps and one more, once its answer is written down
-  pub traced_next : (steps : List (Move B)) (answers answers' : List X) (i : ℕ) (move : Move B) (answer : X)
+  pub traced_next : (steps : List (Move B Slip)) (answers answers' : List X) (i : ℕ) (move : Move B Slip) (answer : X)
       → i < length steps → i < length answers → move ≡ get_or steps i move → answers' ≡ set answers i answer
       → traced f [] (take (i + 1) steps) (take (i + 1) answers') ≡ made move (f answer) ∷ traced f [] (take i steps) (take i answers)
   traced_next steps answers answers' i move answer l k e write =
@@ -54,7 +55,7 @@ module _ {B X : Type 0} (f : X → Answer) where
       next = omega arith
 
   -- where the first i steps led, one more leads on
-  pub leads_next : (from : Moment B) (steps : List (Move B)) (answers answers' : List X) (i : ℕ) (move : Move B) (answer : X) (w w' : Moment B)
+  pub leads_next : (from : Moment B) (steps : List (Move B Slip)) (answers answers' : List X) (i : ℕ) (move : Move B Slip) (answer : X) (w w' : Moment B)
       → Leads from (traced f [] (take i steps) (take i answers)) w → Step move w (f answer) w'
       → i < length steps → i < length answers → move ≡ get_or steps i move → answers' ≡ set answers i answer
       → Leads from (traced f [] (take (i + 1) steps) (take (i + 1) answers')) w'
@@ -62,18 +63,18 @@ module _ {B X : Type 0} (f : X → Answer) where
       subst (λ (trace : Trace B). Leads from trace w') (sym (traced_next steps answers answers' i move answer l k e write)) (further led step)
 
   -- and all of them in the end
-  pub leads_all : (from : Moment B) (steps : List (Move B)) (answers : List X) (i : ℕ) (w : Moment B) → length steps ≤ i
+  pub leads_all : (from : Moment B) (steps : List (Move B Slip)) (answers : List X) (i : ℕ) (w : Moment B) → length steps ≤ i
       → Leads from (traced f [] (take i steps) (take i answers)) w → Leads from (traced f [] steps answers) w
   leads_all from steps answers i w l led = subst (λ (trace : Trace B). Leads from trace w) (traced_all [] steps answers i l) led
 
   -- steps after a past
-  traced_past : (past later : Trace B) (steps : List (Move B)) (answers : List X) → traced f (past ++ later) steps answers ≡ traced f past steps answers ++ later
+  traced_past : (past later : Trace B) (steps : List (Move B Slip)) (answers : List X) → traced f (past ++ later) steps answers ≡ traced f past steps answers ++ later
   traced_past past later [] answers = refl
   traced_past past later (x ∷ steps) [] = refl
   traced_past past later (x ∷ steps) (y ∷ answers) = traced_past (made x (f y) ∷ past) later steps answers
 
   -- the same, of steps and answers in turn
-  pub worked_further : (past : Trace B) (w w' : Moment B) (steps : List (Move B)) (answers : List X) → Worked past w
+  pub worked_further : (past : Trace B) (w w' : Moment B) (steps : List (Move B Slip)) (answers : List X) → Worked past w
       → Leads w (traced f [] steps answers) w' → Worked (traced f past steps answers) w'
   worked_further past w w' steps answers was led =
       subst (λ (trace : Trace B). Worked trace w') (sym (traced_past [] past steps answers)) (worked_more was led)

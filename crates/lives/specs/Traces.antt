@@ -44,17 +44,21 @@ abbrev pub shows : Result Name Reason → Answer
 shows (Ok i) = showed i
 shows (Err why) = refused why
 
--- an answer that a step gave
-abbrev pub answer_of : Result Reply Refusal → Answer
-answer_of (Ok (replies.Docket d)) = docket d
-answer_of (Ok replies.Done) = done
-answer_of (Ok (replies.Taken t)) = taken (taken_as t).0 (taken_as t).1
-answer_of (Ok (replies.Shown id)) = showed (name_of id)
+-- the answer of a step that was made; f tells the numbers of a docket
+abbrev pub replied : {D : Type 0} → (D → Slip) → Reply D → Answer
+replied f (replies.Docket d) = docket (f d)
+replied f replies.Done = done
+replied f (replies.Taken t) = taken (taken_as t).0 (taken_as t).1
+replied f (replies.Shown id) = showed (name_of id)
+
+-- an answer that a step gave by numbers
+abbrev pub answer_of : Result (Reply Slip) Refusal → Answer
+answer_of (Ok reply) = replied (λ d. d) reply
 answer_of (Err why) = refused (reason why)
 
 -- a step that was made, with its answer
 pub record Made (B : Type 0) : Type 0 where
-  pub move : Move B
+  pub move : Move B Slip
   pub answer : Answer
 
 -- a run's trace: the steps that were made, the newest first
@@ -91,11 +95,11 @@ by_send d (showed i) past = past
 by_send d (refused why) past = past
 
 module _ {B : Type 0} where
-  abbrev pub made : Move B → Answer → Made B
+  abbrev pub made : Move B Slip → Answer → Made B
   made move answer = record { move = move; answer = answer }
 
   -- the trace after these steps were made in turn; f tells the answers
-  abbrev pub traced : {X : Type 0} → (X → Answer) → Trace B → List (Move B) → List X → Trace B
+  abbrev pub traced : {X : Type 0} → (X → Answer) → Trace B → List (Move B Slip) → List X → Trace B
   traced f past [] answers = past
   traced f past (move ∷ later) [] = past
   traced f past (move ∷ later) (answer ∷ answers) = traced f (made move (f answer) ∷ past) later answers
@@ -104,7 +108,7 @@ module _ {B : Type 0} where
   posting i body = record { name = i; body = body }
 
   -- the events after one step more
-  abbrev pub happened : Move B → Answer → History Name → History Name
+  abbrev pub happened : Move B Slip → Answer → History Name → History Name
   happened (moves.Post s body) answer past = by_post s answer past
   happened (moves.Send d) answer past = past
   happened (moves.Park d) answer past = past
@@ -126,7 +130,7 @@ module _ {B : Type 0} where
   with_post s body (refused why) past = past
 
   -- the posted letters after one step more
-  abbrev pub with_step : Move B → Answer → List (Posting B) → List (Posting B)
+  abbrev pub with_step : Move B Slip → Answer → List (Posting B) → List (Posting B)
   with_step (moves.Post s body) answer past = with_post s body answer past
   with_step (moves.Send d) answer past = past
   with_step (moves.Park d) answer past = past
@@ -140,7 +144,7 @@ module _ {B : Type 0} where
   postings (step ∷ trace) = with_step step.move step.answer (postings trace)
 
   -- the letters that were sent, after one step more
-  abbrev pub sent_by : Move B → Answer → List Name → List Name
+  abbrev pub sent_by : Move B Slip → Answer → List Name → List Name
   sent_by (moves.Post s body) answer past = past
   sent_by (moves.Send d) answer past = by_send d answer past
   sent_by (moves.Park d) answer past = past

@@ -104,7 +104,7 @@ module _ {B : Type 0} where
     pub carrier : w'.carrier ≡ w.carrier
 
   -- one step, accepted or refused
-  abbrev pub Step : Move B → Moment B → Answer → Moment B → Type 0
+  abbrev pub Step : Move B Slip → Moment B → Answer → Moment B → Type 0
   Step (moves.Post s body) w answer w' = PostStep s body w answer w'
   Step (moves.Send d) w answer w' = SendStep d w answer w'
   Step (moves.Park d) w answer w' = ParkStep d w answer w'
@@ -115,7 +115,7 @@ module _ {B : Type 0} where
   -- The steps of the trace, with these answers, led from one moment to the other, each finding all as the one before it left it.
   pub data Leads (from : Moment B) : Trace B → Moment B → Type 0 where
     nowhere : Leads from [] from
-    further : {trace : Trace B} {w w' : Moment B} {move : Move B} {answer : Answer} → Leads from trace w → Step move w answer w'
+    further : {trace : Trace B} {w w' : Moment B} {move : Move B Slip} {answer : Answer} → Leads from trace w → Step move w answer w'
         → Leads from (made move answer ∷ trace) w'
 
   -- A room was opened and then made the steps of the trace with these answers.
@@ -125,5 +125,5 @@ module _ {B : Type 0} where
     pub led : Leads first trace w
 
   -- by whatever trace the room was worked before, after this step it is worked by that trace and this step
-  abbrev pub WorksOn : Move B → Moment B → Answer → Moment B → Type 0
+  abbrev pub WorksOn : Move B Slip → Moment B → Answer → Moment B → Type 0
   WorksOn move w answer w' = (trace : Trace B) → Worked trace w → Worked (made move answer ∷ trace) w'

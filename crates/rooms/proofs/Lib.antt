@@ -4,6 +4,5 @@ pub mod Showing
 pub mod Taking
 pub mod Closing
 pub mod Serving
-pub mod Stepping
 pub mod Running
 pub mod Drawing

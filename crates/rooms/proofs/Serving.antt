@@ -19,11 +19,11 @@ use Rattle.rooms.specs.Calls.{Carried}
 use Rattle.rooms.specs.Serving.{ServesOn}
 
 module _ {B C : Type 0} (meaning : C → Meaning (Letter B)) (puts : C → Letter B → C → Type 0) (rests : C → C → Type 0) (c c' : C) where
-  abbrev On : Move B → Answer → Type 0
+  abbrev On : Move B Slip → Answer → Type 0
   On move answer = ServesOn meaning puts rests move answer c c'
 
   -- a step that does not touch the carrier
-  stays : (move : Move B) (answer : Answer) → ((trace : Trace B) → sent trace ≡ sent (made move answer ∷ trace)) → c' ≡ c → On move answer
+  stays : (move : Move B Slip) (answer : Answer) → ((trace : Trace B) → sent trace ≡ sent (made move answer ∷ trace)) → c' ≡ c → On move answer
   stays move answer none same from trace was = record {
     letters = was.letters;
     served = subst (λ k. Served meaning puts rests from was.letters k) (sym same) was.served;
@@ -55,7 +55,7 @@ module _ {B C : Type 0} (meaning : C → Meaning (Letter B)) (puts : C → Lette
   takes_on s place st st' holds holds' m m' (Err why) drawn r before after took same from trace was = stays (moves.Take s place) (takes r) (λ past. refl) same from trace was
 
   -- a step, by what it answers and leaves and by what it does to the carrier
-  pub serves_on : (move : Move B) (w w' : Moment B) (answer : Answer) → w.carrier ≡ meaning c → w'.carrier ≡ meaning c' → Step move w answer w' → Carried puts rests move w c c' → On move answer
+  pub serves_on : (move : Move B Slip) (w w' : Moment B) (answer : Answer) → w.carrier ≡ meaning c → w'.carrier ≡ meaning c' → Step move w answer w' → Carried puts rests move w c c' → On move answer
   serves_on (moves.Post s body) w w' answer before after step same = stays (moves.Post s body) answer (λ trace. refl) same
   serves_on (moves.Send d) w w' answer before after step put = subst (On (moves.Send d)) (sym step.answers) (sends d w (letter_at w d) refl put)
   serves_on (moves.Park d) w w' answer before after step same = stays (moves.Park d) answer (λ trace. refl) same

@@ -22,7 +22,7 @@ Draws (Err why) c s place c' = c' ≡ c
 -- what a step does to the carrier itself, C, of which `puts` says what one put does, and `rests` what a no of its own leaves: a
 -- send puts the docket's letter once, or leaves the carrier where there is none to put; a take that does not come to draw leaves
 -- it; where the carrier says no, it rests; no other step touches it
-abbrev pub Carried : {B C : Type 0} → (C → Letter B → C → Type 0) → (C → C → Type 0) → Move B → Moment B → C → C → Type 0
+abbrev pub Carried : {B C : Type 0} → (C → Letter B → C → Type 0) → (C → C → Type 0) → Move B Slip → Moment B → C → C → Type 0
 Carried puts rests (moves.Post s body) w c c' = c' ≡ c
 Carried puts rests (moves.Send d) w c c' = PutsOnce puts rests (letter_at w d) (send_at w d) c c'
 Carried puts rests (moves.Park d) w c c' = c' ≡ c

@@ -4,6 +4,7 @@ use Rattle.letters.specs.declared.letter.Letter.{Letter}
 use Rattle.letters.specs.Letters.{letter_name}
 use Rattle.carriers.specs.Meaning.{Meaning}
 use Rattle.carriers.specs.Serving.{Served}
+use Rattle.seats.specs.declared.slip.Slip.{Slip}
 use Rattle.lives.specs.declared.moves.Move.{Move}
 use Rattle.lives.specs.Traces.{Answer, Trace, made, sent}
 
@@ -15,5 +16,5 @@ module _ {B C : Type 0} (meaning : C → Meaning (Letter B)) (puts : C → Lette
     pub named : map letter_name letters ≡ sent trace
 
   -- by whatever steps the carrier came to be what it was, after this step it is by those and this one
-  abbrev pub ServesOn : Move B → Answer → C → C → Type 0
+  abbrev pub ServesOn : Move B Slip → Answer → C → C → Type 0
   ServesOn move answer c c' = (from : C) (trace : Trace B) → Serves from trace c → Serves from (made move answer ∷ trace) c'

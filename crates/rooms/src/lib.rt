@@ -1,8 +1,8 @@
 // Rooms of boxes that post letters to one another, and show them in causal order.
 #![tactic(auto)]
 
-pub mod asking;
 pub mod closed;
+pub mod declined;
 pub mod docket;
 pub mod draft;
 pub mod room;

@@ -9,6 +9,7 @@ use seats::seat::Seat;
 mod close;
 mod dockets;
 mod draw_up;
+mod make;
 mod post;
 mod read;
 mod send;

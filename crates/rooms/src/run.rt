@@ -17,6 +17,7 @@ use letters::letter::Letter;
 use letters::refusal::Refusal;
 use lives::moves::Move;
 use lives::reply::Reply;
+use seats::slip::Slip;
 use sheets::sheet::Sheet;
 
 // Whether the draft can be run: 5 where there is no place for every reply, else as opening it, 4, 5, 6, 7.
@@ -25,8 +26,8 @@ pub fn check<B: Body, C: Carrier<Body = B>>(
     logs: &[Letter<B>],
     holds: &[Letter<B>],
     carrier: &C,
-    steps: &[Move<B>],
-    replies: &[Result<Reply, Refusal>],
+    steps: &[Move<B, Slip>],
+    replies: &[Result<Reply<Slip>, Refusal>],
 ) -> Result<(), Refusal>
     ensures { told (λ u. u) result ≡ run_check (draft_state draft.now) (length logs.now) (length holds.now) (C.Carrier.meaning carrier.now) (length steps.now) (length replies.now) }
 {
@@ -43,8 +44,8 @@ pub fn run<B: Body, C: Carrier<Body = B>, K: Sheet<Body = B>>(
     logs: &mut [Letter<B>],
     holds: &mut [Letter<B>],
     carrier: &mut C,
-    steps: &[Move<B>],
-    replies: &mut [Result<Reply, Refusal>],
+    steps: &[Move<B, Slip>],
+    replies: &mut [Result<Reply<Slip>, Refusal>],
 ) -> Room
     requires { run_check (draft_state draft) (length logs.old) (length holds.old) (C.Carrier.meaning carrier.old) (length steps.now) (length replies.old) ≡ Ok tt }
     ensures leads { Leads (moment (opened (draft_state draft)) logs.old holds.old (C.Carrier.meaning carrier.old)) (traced answer_of [] steps.now replies.new) (moment (state result) logs.new holds.new (C.Carrier.meaning carrier.new)) }
@@ -64,8 +65,8 @@ fn step_all<B: Body, C: Carrier<Body = B>>(
     logs: &mut [Letter<B>],
     holds: &mut [Letter<B>],
     carrier: &mut C,
-    steps: &[Move<B>],
-    replies: &mut [Result<Reply, Refusal>],
+    steps: &[Move<B, Slip>],
+    replies: &mut [Result<Reply<Slip>, Refusal>],
 )
     requires { length steps.now ≤ length replies.old }
     ensures leads { Leads (moment (state room.old) logs.old holds.old (C.Carrier.meaning carrier.old)) (traced answer_of [] steps.now replies.new) (moment (state room.new) logs.new holds.new (C.Carrier.meaning carrier.new)) }

@@ -75,7 +75,7 @@ fn tell(rt: &HostRuntime, ended: Result<(), Stop>) -> io::Result<()> {
 // The step that twelve bytes write: the call, a seat, a 16-bit number, a 32-bit one, a poster, and zeros.
 // The calls are 1 post an add, 2 post a strike, 3 send, 4 park, 5 collect, 6 take, and show by any other. It is no `TryFrom`:
 // bytes and `Move` are both of other crates.
-fn read_move(bytes: &[u8]) -> Result<Move<Job>, Refusal> {
+fn read_move(bytes: &[u8]) -> Result<Move<Job, Slip>, Refusal> {
     let &[call, seat, low, high, a, b, c, d, poster, ..] = bytes else {
         return Ok(Move::Show(0));
     };
@@ -98,7 +98,7 @@ fn read_move(bytes: &[u8]) -> Result<Move<Job>, Refusal> {
 }
 
 // It is no `Display`: a reply is of another crate, and these words are this program's.
-fn print_reply(rt: &HostRuntime, reply: Reply) -> io::Result<()> {
+fn print_reply(rt: &HostRuntime, reply: Reply<Slip>) -> io::Result<()> {
     match reply {
         Reply::Docket(Slip { room, seat, number }) => println!(rt; "docket {room} {seat} {number}"),
         Reply::Done => println!(rt; "done"),
@@ -108,7 +108,7 @@ fn print_reply(rt: &HostRuntime, reply: Reply) -> io::Result<()> {
 }
 
 // The steps that the bytes write, without those that cannot be read.
-fn read_moves(alloc: Global, steps: &[u8]) -> Result<Vec<Move<Job>>, AllocError> {
+fn read_moves(alloc: Global, steps: &[u8]) -> Result<Vec<Move<Job, Slip>>, AllocError> {
     let mut asked = Vec::new(alloc);
     for bytes in steps.chunks_exact(12) {
         if let Ok(step) = read_move(bytes) {
@@ -119,7 +119,10 @@ fn read_moves(alloc: Global, steps: &[u8]) -> Result<Vec<Move<Job>>, AllocError>
 }
 
 // Places for so many replies.
-fn no_replies(alloc: Global, count: usize) -> Result<Vec<Result<Reply, Refusal>>, AllocError> {
+fn no_replies(
+    alloc: Global,
+    count: usize,
+) -> Result<Vec<Result<Reply<Slip>, Refusal>>, AllocError> {
     let mut replies = Vec::new(alloc);
     for _ in 0..count {
         replies.push(Err(Refusal::TooShort))?;
@@ -131,7 +134,7 @@ fn no_replies(alloc: Global, count: usize) -> Result<Vec<Result<Reply, Refusal>>
 fn print_replies(
     rt: &HostRuntime,
     steps: &[u8],
-    replies: &[Result<Reply, Refusal>],
+    replies: &[Result<Reply<Slip>, Refusal>],
 ) -> io::Result<()> {
     let mut replied = replies.iter();
     for bytes in steps.chunks_exact(12) {
