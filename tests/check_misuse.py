@@ -118,6 +118,8 @@ STEP = misuse(
     "(room: &mut Room, logs: &mut [Letter<Job>], holds: &mut [Letter<Job>], lines: &mut Lines<Job>, slip: Slip) -> Result<Reply<Slip>, Refusal>",
     "    room.step(logs, holds, lines, Move::Send(slip))\n",
 )
+FALL_OUT = misuse(["rooms::room::Room", "rooms::run::Ended"], "(ended: Ended) -> Room", "    let Ended { room, dockets: _ } = ended;\n    room\n")
+MAKE_OUT = misuse(["rooms::out_dockets::OutDockets"], "() -> OutDockets", "    OutDockets { slips: [None; 16] }\n")
 
 
 def changed(field):
@@ -131,6 +133,8 @@ CRATES = [
     ("draft_opened_first", POST.replace("ROOM", "draft.open(logs, holds, carrier)"), None),
     ("docket_let_fall", SPEND.replace("REFUSED", "Err(_) => Ok(()),"), ["error[linear-value-let-go]"]),
     ("docket_parked", SPEND.replace("REFUSED", "Err(Returned { docket, refusal: _ }) => room.park(docket),"), None),
+    ("out_dockets_let_fall", FALL_OUT, ["error[linear-value-let-go]"]),
+    ("out_dockets_made", MAKE_OUT, ["error[private-field]", "field `slips` of struct `OutDockets` is private"]),
     ("docket_made", MAKE, ["error[private-field]", "field `room` of struct `Docket` is private"]),
     ("docket_made_of_a_slip", MAKE_OF_SLIP, ["error[unknown-method]", "named `of` found for struct `Docket`"]),
     ("docket_taken_apart", TAKE_APART, ["error[private-field]", "field `room` of struct `Docket` is private"]),

@@ -6,3 +6,4 @@ pub mod Closing
 pub mod Serving
 pub mod Running
 pub mod Drawing
+pub mod Handing

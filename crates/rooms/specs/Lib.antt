@@ -6,3 +6,4 @@ pub mod Drafts
 pub mod Running
 pub mod Drawing
 pub mod Asked
+pub mod Handing

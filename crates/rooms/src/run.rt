@@ -1,15 +1,17 @@
 // A room's whole life: it opens and makes one step after the other.
-ghost use Rattle.std.specs.Prelude.{◌≡◌, ◌≤◌, [], length, drop, Ok};
+ghost use Rattle.std.specs.Prelude.{◌≡◌, ℕ, ◌≤◌, [], length, drop, Ok};
 ghost use Rattle.letters.specs.Refusals.{told};
 ghost use Rattle.lives.specs.Traces.{answer_of, traced};
 ghost use Rattle.lives.specs.Worked.{Leads, Worked, moment};
 ghost use Rattle.lives.specs.Keeps.{Keeps};
 ghost use Rattle.rooms.specs.Drafts.{draft_state, opened};
+ghost use Rattle.rooms.specs.Handing.{left_at, out_at};
 ghost use Rattle.rooms.specs.Running.{run_check};
 ghost use Rattle.rooms.specs.Serving.{Serves};
 ghost use Rattle.rooms.specs.States.{state};
 
 use crate::draft::Draft;
+use crate::out_dockets::OutDockets;
 use crate::room::Room;
 use carriers::carrier::Carrier;
 use letters::body::Body;
@@ -37,7 +39,14 @@ pub fn check<B: Body, C: Carrier<Body = B>>(
     draft.check_open(logs, holds, carrier)
 }
 
-// Opens the room, makes the steps in turn and writes down what each replies. Whatever the steps are, the room keeps causal
+// A room to which a list of steps came, with the dockets that are out there.
+pub struct Ended {
+    pub room: Room,
+    pub dockets: OutDockets,
+}
+
+// Opens the room, makes the steps in turn and writes down what each replies; of each seat whose docket is then out, it hands
+// the docket out. Whatever the steps are, the room keeps causal
 // order, complete delivery and convergence on every kind of sheet.
 pub fn run<B: Body, C: Carrier<Body = B>, K: Sheet<Body = B>>(
     draft: Draft,
@@ -46,17 +55,19 @@ pub fn run<B: Body, C: Carrier<Body = B>, K: Sheet<Body = B>>(
     carrier: &mut C,
     steps: &[Move<B, Slip>],
     replies: &mut [Result<Reply<Slip>, Refusal>],
-) -> Room
+) -> Ended
     requires { run_check (draft_state draft) (length logs.old) (length holds.old) (C.Carrier.meaning carrier.old) (length steps.now) (length replies.old) ≡ Ok tt }
-    ensures leads { Leads (moment (opened (draft_state draft)) logs.old holds.old (C.Carrier.meaning carrier.old)) (traced answer_of [] steps.now replies.new) (moment (state result) logs.new holds.new (C.Carrier.meaning carrier.new)) }
-    ensures worked { Worked (traced answer_of [] steps.now replies.new) (moment (state result) logs.new holds.new (C.Carrier.meaning carrier.new)) }
-    ensures keeps { Keeps K.Sheet.kind (traced answer_of [] steps.now replies.new) (moment (state result) logs.new holds.new (C.Carrier.meaning carrier.new)) }
+    ensures leads { Leads (moment (opened (draft_state draft)) logs.old holds.old (C.Carrier.meaning carrier.old)) (traced answer_of [] steps.now replies.new) (moment (state result.room) logs.new holds.new (C.Carrier.meaning carrier.new)) }
+    ensures worked { Worked (traced answer_of [] steps.now replies.new) (moment (state result.room) logs.new holds.new (C.Carrier.meaning carrier.new)) }
+    ensures keeps { Keeps K.Sheet.kind (traced answer_of [] steps.now replies.new) (moment (state result.room) logs.new holds.new (C.Carrier.meaning carrier.new)) }
     ensures serves { Serves C.Carrier.meaning C.Carrier.puts C.Carrier.rests carrier.old (traced answer_of [] steps.now replies.new) carrier.new }
+    ensures dockets { (s : ℕ) → left_at result.dockets s ≡ out_at (state result.room) s }
     ensures rest { drop (length steps.now) replies.new ≡ drop (length steps.now) replies.old }
 {
     let mut room = draft.open(logs, holds, carrier);
     step_all(&mut room, logs, holds, carrier, steps, replies);
-    room
+    let dockets = OutDockets::of(&room);
+    Ended { room, dockets }
 }
 
 // Makes the steps in turn.

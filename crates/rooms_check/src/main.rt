@@ -14,7 +14,7 @@ use lives::reply::Reply;
 use pair::Pair;
 use rooms::draft::Draft;
 use rooms::room::Room;
-use rooms::run;
+use rooms::run::{self, Ended};
 use seats::slip::Slip;
 use sheets::job_list::JobList;
 use spool::Spool;
@@ -214,7 +214,7 @@ fn live_on_pair<C: Carrier<Body = Job> + Drop, D: Carrier<Body = Job> + Drop>(
         asked.as_slice(),
         replies.as_slice(),
     )?;
-    let room = run::run::<Job, Pair<C, D>, JobList>(
+    let Ended { mut room, dockets } = run::run::<Job, Pair<C, D>, JobList>(
         draft,
         &mut logs,
         &mut holds,
@@ -222,6 +222,7 @@ fn live_on_pair<C: Carrier<Body = Job> + Drop, D: Carrier<Body = Job> + Drop>(
         asked.as_slice(),
         replies.as_mut_slice(),
     );
+    dockets.park_all(&mut room);
     print_replies(rt, steps, replies.as_slice())?;
     let desk = Desk {
         room,

@@ -5,6 +5,7 @@ ghost use Rattle.seats.specs.declared.seat.DocketEvent.TheVariants.{Park, Collec
 ghost use Rattle.seats.specs.Outcomes.{collect_answer, docket_room, good_slip, park_answer};
 ghost use Rattle.seats.specs.Rooms.{seat_at, with_seat};
 ghost use Rattle.seats.specs.Seats.{clock_at, docketed};
+ghost use Rattle.rooms.specs.Handing.{out_at};
 ghost use Rattle.rooms.specs.States.{ComesBack, slip, spent, state};
 
 use crate::docket::{Docket, Returned};
@@ -72,6 +73,20 @@ impl Room {
             seat: s,
             number: poster.clock.entry(s),
         }
+    }
+
+    // The numbers of a seat's docket, where it is out.
+    pub(crate) fn out(&self, seat: u8) -> Option<Slip>
+        ensures { result ≡ out_at (state self.now) seat }
+    {
+        if seat >= self.terms.count {
+            return None;
+        }
+        let mut poster = self.seats[seat as usize];
+        if !poster.move_docket(DocketEvent::Send) {
+            return None;
+        }
+        Some(self.newest(seat, &poster))
     }
 
     // Whether the docket of these numbers is out at this room, to be sent or parked.

@@ -25,5 +25,6 @@ returns g c =
       worked = worked;
       keeps = always_keeps g.K.Sheet.kind g.met.K.Sheet.lawful trace after worked;
       serves = c.step_all.ensures.serves;
+      dockets = c.of-dockets.ensures;
       rest = c.step_all.ensures.rest;
     }
