@@ -1,16 +1,15 @@
 -- What an accepted show answers and leaves.
-use Rattle.std.proofs.Common.{◌≡◌, ℕ, ◌+◌, ◌-◌, ◌<◌, ◌≤◌, cond, ltb, List, length, take, drop, Some, Ok, sym, ap, ◌∙◌, subst, arith}
+use Rattle.std.proofs.Common.{◌≡◌, ℕ, ◌+◌, ◌-◌, ◌<◌, ◌≤◌, cond, ltb, List, length, Some, Ok, sym, ap, ◌∙◌, subst, arith}
 use Rattle.std.proofs.lemmas.Bool.{cond-true, lt-ltb}
 use Rattle.letters.specs.declared.letter.Letter.{Letter}
 use Rattle.letters.specs.Letters.{number_of}
 use Rattle.letters.specs.Order.{ready}
 use Rattle.seats.specs.declared.seat.Seat.{Seat}
 use Rattle.seats.specs.Keeping.{Kept, Sound}
-use Rattle.seats.specs.Outcomes.{answered, first, first_ready, follows, or_none_ready, seat_check, show_holds, show_outcome, shown_seat}
-use Rattle.seats.specs.Rooms.{RoomState, closed, seat_at, start}
+use Rattle.seats.specs.Outcomes.{first, first_ready, follows, or_none_ready, seat_check, show_holds, show_outcome, shown_seat}
+use Rattle.seats.specs.Rooms.{RoomState, closed, hold_of, seat_at, start}
 use Rattle.seats.specs.Seats.{clocked, released}
 use Rattle.seats.proofs.Accepted.{Showable, showable, shown_kept, visited}
-use Rattle.rooms.proofs.Rooms.{Says, says}
 
 -- a table that has the places behind a letter closes up there
 pub closed_up : {X : Type 0} (table table' : List X) (i j k n : ℕ) → i ≡ j → j + k + n < length table
@@ -24,41 +23,34 @@ pub told_shown : {B : Type 0} (viewer : Seat) (m : Letter B) (p n : ℕ) (x y : 
 told_shown viewer m p n x y release set number poster =
     release ∙ ap released set ∙ (λ j. released (clocked viewer (poster j) (number j)))
 
--- the letter that is found in the hold of a seat that was visited, x
-module _ {B : Type 0} (st : RoomState) (ok : Sound st) (logs s k : ℕ) (holds hold : List (Letter B)) (x : Seat) (m : Letter B)
-    (visits : Ok x ≡ answered (seat_check st logs (length holds) s) (seat_at st s))
-    (of_hold : hold ≡ take x.held (drop (start st s) holds)) (found : Some (k, m) ≡ first (ready st.count st.quota s x.clock) 0 hold) where
-  visit : Says (seat_check st logs (length holds) s) x (seat_at st s)
-  visit = says _ _ _ visits
-
+-- the letter that is found in the hold of a seat
+module _ {B : Type 0} (st : RoomState) (ok : Sound st) (logs s k : ℕ) (holds hold : List (Letter B)) (m : Letter B)
+    (visits : Ok tt ≡ seat_check st logs (length holds) s)
+    (of_hold : hold ≡ hold_of st holds s) (found : Some (k, m) ≡ first (ready st.count st.quota s (seat_at st s).clock) 0 hold) where
   here : Some (k, m) ≡ first_ready st holds s
-  here =
-      found
-      ∙ ap (first (ready st.count st.quota s x.clock) 0) of_hold
-      ∙ ap (λ (y : Seat). first (ready st.count st.quota s y.clock) 0 (take y.held (drop (start st s) holds))) visit.is
+  here = found ∙ ap (first (ready st.count st.quota s (seat_at st s).clock) 0) of_hold
 
   can : Showable st logs (length holds) s k m
-  can = showable st ok logs s k holds m visit.can here
+  can = showable st ok logs s k holds m visits here
 
   -- it is there, and the hold ends within the table
-  pub there : k < x.held
-  there = let held = ap (λ (y : Seat). y.held) visit.is in omega (arith, can.there)
+  pub there : k < (seat_at st s).held
+  there = can.there
 
-  pub hold_end : start st s + x.held ≤ length holds
-  hold_end = let held = ap (λ (y : Seat). y.held) visit.is in omega (arith, can.hold_end)
+  pub hold_end : start st s + (seat_at st s).held ≤ length holds
+  hold_end = can.hold_end
 
   -- the seat keeps to the room's terms when it is told
-  pub told_kept : (p n : ℕ) (y z : Seat) → z ≡ released y → y ≡ clocked x p n → n ≡ number_of m → p ≡ m.poster → Kept st.count st.quota z × (s < 16)
+  pub told_kept : (p n : ℕ) (y z : Seat) → z ≡ released y → y ≡ clocked (seat_at st s) p n → n ≡ number_of m → p ≡ m.poster → Kept st.count st.quota z × (s < 16)
   told_kept p n y z release set number poster =
-      let told = told_shown x m p n y z release set number poster ∙ ap (λ v. shown_seat v m) visit.is in
-      let at = visited st logs (length holds) s visit.can in
+      let told = told_shown (seat_at st s) m p n y z release set number poster in
+      let at = visited st logs (length holds) s visits in
       (subst (Kept st.count st.quota) (sym told) (shown_kept st ok s m at.inside can.poster can.few), omega (arith, ok.few, at.inside))
 
   -- the hold closes up behind it
   pub show_held : (holds' : List (Letter B)) (i : ℕ) → i ≡ start st s
-      → holds' ≡ cond (ltb (i + k + (x.held - k - 1)) (length holds)) (closed holds (i + k) (x.held - k - 1)) holds
+      → holds' ≡ cond (ltb (i + k + ((seat_at st s).held - k - 1)) (length holds)) (closed holds (i + k) ((seat_at st s).held - k - 1)) holds
       → holds' ≡ show_holds st (show_outcome st logs holds s) s holds
   show_held holds' i at written =
-      closed_up holds holds' i (start st s) k (x.held - k - 1) at (omega (arith, there, hold_end)) written
-      ∙ ap (λ (y : Seat). closed holds (start st s + k) (y.held - k - 1)) visit.is
-      ∙ ap (λ o. show_holds st o s holds) (ap or_none_ready here ∙ ap (λ c. follows c (or_none_ready (first_ready st holds s))) visit.can)
+      closed_up holds holds' i (start st s) k ((seat_at st s).held - k - 1) at (omega (arith, there, hold_end)) written
+      ∙ ap (λ o. show_holds st o s holds) (ap or_none_ready here ∙ ap (λ c. follows c (or_none_ready (first_ready st holds s))) visits)

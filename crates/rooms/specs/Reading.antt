@@ -4,17 +4,12 @@ use Rattle.letters.specs.declared.letter.Letter.{Letter}
 use Rattle.letters.specs.Order.{each_below}
 use Rattle.letters.specs.Refusals.{Reason, unless}
 use Rattle.sheets.specs.Pages.{page_count}
-use Rattle.seats.specs.declared.seat.Seat.{Seat}
 use Rattle.seats.specs.declared.seat.DocketEvent.TheVariants.{Post}
 use Rattle.seats.specs.Outcomes.{answered, seat_check}
 use Rattle.seats.specs.Rooms.{RoomState, log_of, seat_at}
 use Rattle.seats.specs.Seats.{allows, log_length}
 use Rattle.rooms.specs.declared.closed.ClosedRoom.{ClosedRoom}
 use Rattle.rooms.specs.States.{state}
-
--- what a room keeps for a seat
-abbrev pub seat_answer : RoomState → ℕ → Result Seat Reason
-seat_answer st s = unless (nat_lt s st.count) 8 (Ok (seat_at st s))
 
 -- the letters of a seat's log
 abbrev pub log_answer : {B : Type 0} → RoomState → List (Letter B) → ℕ → ℕ → Result (List (Letter B)) Reason

@@ -56,7 +56,8 @@ impl Room {
         ensures answer { told (λ slip. slip) result ≡ collect_answer (state self.old) seat }
         ensures room { state self.new ≡ docket_room (state self.old) seat Collect (collect_answer (state self.old) seat) }
     {
-        let mut poster = self.seat(seat)?;
+        self.check_seat(seat)?;
+        let mut poster = self.seats[seat as usize];
         if !poster.move_docket(DocketEvent::Collect) {
             return Err(Refusal::NotParked);
         }
@@ -93,10 +94,7 @@ impl Room {
     pub(crate) fn knows(&self, slip: Slip) -> bool
         ensures { result ≡ good_slip (state self.now) slip }
     {
-        let Ok(mut poster) = self.seat(slip.seat) else {
-            return false;
-        };
-        poster.move_docket(DocketEvent::Send) && slip == self.newest(slip.seat, &poster)
+        self.out(slip.seat) == Some(slip)
     }
 
     // Tells a seat what happens to its docket.

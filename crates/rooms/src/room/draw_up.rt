@@ -28,10 +28,10 @@ impl Room {
         ensures untouched { Kept result sheet.old sheet.new }
         ensures keeps { AlwaysKeeps K.Sheet.kind }
     {
-        let reader = self.visit(logs.len(), holds.len(), seat)?;
+        self.check_visit(logs.len(), holds.len(), seat)?;
         if K::PLACES < self.terms.places() as u32 {
             return Err(Refusal::TooFewPlaces);
         }
-        draw_up(sheet, self.log_part(logs, seat, &reader))
+        draw_up(sheet, self.log_part(logs, seat, &self.seats[seat as usize]))
     }
 }

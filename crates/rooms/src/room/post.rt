@@ -44,7 +44,8 @@ impl Room {
         ensures room { state self.new ≡ post_room (state self.old) (post_answer (state self.old) (length logs.old) (length holds.now) seat) seat }
         ensures logs { PostLogs (state self.old) (post_answer (state self.old) (length logs.old) (length holds.now) seat) seat body logs.old logs.new }
     {
-        let mut poster = self.visit(logs.len(), holds.len(), seat)?;
+        self.check_visit(logs.len(), holds.len(), seat)?;
+        let mut poster = self.seats[seat as usize];
         let foot = self.foot(seat, &poster);
         if !poster.move_docket(DocketEvent::Post) {
             return Err(Refusal::DocketTaken);

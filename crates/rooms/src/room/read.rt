@@ -20,14 +20,15 @@ impl Room {
     ) -> Result<&'t [Letter<B>], Refusal>
         ensures { told (λ log. log.now) result ≡ log_answer (state self.now) logs.now (length holds.now) seat }
     {
-        let reader = self.visit(logs.len(), holds.len(), seat)?;
-        Ok(self.log_part(logs, seat, &reader))
+        self.check_visit(logs.len(), holds.len(), seat)?;
+        Ok(self.log_part(logs, seat, &self.seats[seat as usize]))
     }
 
     // How many pages a seat's log takes. Refused with 8.
     pub fn pages(&self, seat: u8) -> Result<u32, Refusal>
         ensures { told (λ n. n) result ≡ pages_answer (state self.now) seat }
     {
-        Ok(pages(self.seat(seat)?.log_len()))
+        self.check_seat(seat)?;
+        Ok(pages(self.seats[seat as usize].log_len()))
     }
 }

@@ -28,7 +28,8 @@ impl Room {
         ensures logs { logs.new ≡ show_logs (state self.old) (show_outcome (state self.old) (length logs.old) holds.old seat) seat logs.old }
         ensures holds { holds.new ≡ show_holds (state self.old) (show_outcome (state self.old) (length logs.old) holds.old seat) seat holds.old }
     {
-        let mut viewer = self.visit(logs.len(), holds.len(), seat)?;
+        self.check_visit(logs.len(), holds.len(), seat)?;
+        let mut viewer = self.seats[seat as usize];
         let hold = self.hold_part(holds, seat, &viewer);
         let Terms { count, quota, .. } = self.terms;
         let Some((at, letter)) = first_ready(hold, count, quota, seat, &viewer.clock) else {

@@ -1,11 +1,10 @@
 // The table of seats, and where each seat's letters lie in the letter tables.
-ghost use Rattle.std.specs.Prelude.{◌≡◌, ◌+◌, ◌<◌, ◌≤◌, replicate, take, drop};
-ghost use Rattle.letters.specs.Refusals.{told};
+ghost use Rattle.std.specs.Prelude.{◌≡◌, ◌+◌, ◌<◌, ◌≤◌, replicate, take, drop, nat_lt, Ok};
+ghost use Rattle.letters.specs.Refusals.{told, unless};
 ghost use Rattle.seats.specs.Keeping.{Kept};
-ghost use Rattle.seats.specs.Outcomes.{answered, seat_check};
-ghost use Rattle.seats.specs.Rooms.{seat_at, start, with_seat};
+ghost use Rattle.seats.specs.Outcomes.{seat_check};
+ghost use Rattle.seats.specs.Rooms.{start, with_seat};
 ghost use Rattle.seats.specs.Seats.{fresh, log_length};
-ghost use Rattle.rooms.specs.Reading.{seat_answer};
 ghost use Rattle.rooms.specs.States.{state};
 
 use crate::room::Room;
@@ -83,23 +82,23 @@ impl Room {
         part(holds, self.start(s), seat.held as usize)
     }
 
-    // What the room keeps for a seat, copied out; 8 where it has no such seat.
-    pub(crate) fn seat(&self, s: u8) -> Result<Seat, Refusal>
-        ensures { told (λ x. x) result ≡ seat_answer (state self.now) s }
+    // Whether the room has this seat: 8 where it has not.
+    pub(crate) fn check_seat(&self, s: u8) -> Result<(), Refusal>
+        ensures { told (λ u. u) result ≡ unless (nat_lt s self.now.terms.count) 8 (Ok tt) }
     {
         if s >= self.terms.count {
             return Err(Refusal::UnknownSeat);
         }
-        Ok(self.seats[s as usize])
+        Ok(())
     }
 
-    // The same, with 5 where the tables do not suffice.
-    pub(crate) fn visit(&self, logs: usize, holds: usize, s: u8) -> Result<Seat, Refusal>
-        ensures { told (λ x. x) result ≡ answered (seat_check (state self.now) logs holds s) (seat_at (state self.now) s) }
+    // Whether the tables suffice and the room has this seat: 5, 8.
+    pub(crate) fn check_visit(&self, logs: usize, holds: usize, s: u8) -> Result<(), Refusal>
+        ensures { told (λ u. u) result ≡ seat_check (state self.now) logs holds s }
     {
         if !self.terms.suffice(logs, holds) {
             return Err(Refusal::TooShort);
         }
-        self.seat(s)
+        self.check_seat(s)
     }
 }

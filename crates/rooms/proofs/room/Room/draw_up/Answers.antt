@@ -1,11 +1,9 @@
-use Rattle.std.proofs.Common.{◌*◌, ◌≤◌, length, take, drop, ap, ◌∙◌, rules}
+use Rattle.std.proofs.Common.{◌*◌, ◌≤◌, length, ap, ◌∙◌, rules}
 use Rattle.sheets.specs.Sheets.{answered, left_by}
-use Rattle.seats.specs.Rooms.{start}
-use Rattle.seats.specs.Seats.{log_length}
 use Rattle.lives.proofs.Keeping.{always_keeps}
 use Rattle.rooms.specs.States.{state}
 use Rattle.rooms.proofs.Drawing.{goes_up}
-use Rattle.rooms.proofs.Rooms.{says, sound}
+use Rattle.rooms.proofs.Rooms.{sound}
 use Rattle.rooms.proofs.room.Room.draw_up.Goals as goal
 
 pub returns : goal.returns
@@ -16,9 +14,7 @@ returns g c =
     let log = c.log_part.result.now in
     let drew = c.draw_up.ensures in
     let wide : r.terms.count * r.terms.quota ≤ kind.places = search rules in
-    let reader = says _ _ _ c.in_ok-reader.ensures in
-    let is = c.log_part.ensures ∙ ap (λ x. take (log_length x) (drop (start (state r) c.args.seat) logs)) reader.is in
-    let up = goes_up kind (state r) (sound r) logs (length c.args.holds.now) c.args.seat log reader.can wide is in
+    let up = goes_up kind (state r) (sound r) logs (length c.args.holds.now) c.args.seat log c.in_ok-check_visit.ensures wide c.log_part.ensures in
     record {
       answer = drew.answer ∙ ap answered up;
       leaves = drew.leaves ∙ ap (λ o. left_by o (g.K.Sheet.meaning c.args.sheet.now)) up;
@@ -26,8 +22,8 @@ returns g c =
       keeps = always_keeps kind g.met.K.Sheet.lawful;
     }
 
-pub returns-in_err-reader-clause-keeps : goal.returns-in_err-reader-clause-keeps
-returns-in_err-reader-clause-keeps g c = always_keeps g.K.Sheet.kind g.met.K.Sheet.lawful
+pub returns-in_err-check_visit-clause-keeps : goal.returns-in_err-check_visit-clause-keeps
+returns-in_err-check_visit-clause-keeps g c = always_keeps g.K.Sheet.kind g.met.K.Sheet.lawful
 
 pub returns-then-PLACES-places-clause-keeps : goal.returns-then-PLACES-places-clause-keeps
 returns-then-PLACES-places-clause-keeps g c = always_keeps g.K.Sheet.kind g.met.K.Sheet.lawful
