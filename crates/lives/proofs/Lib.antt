@@ -11,5 +11,6 @@ pub mod Opening
 pub mod Going
 pub mod Agreeing
 pub mod Keeping
+pub mod Throughout
 pub mod Tracing
 pub mod Following

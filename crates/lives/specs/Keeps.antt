@@ -14,7 +14,7 @@ use Rattle.seats.specs.Outcomes.{is_stray}
 use Rattle.seats.specs.Rooms.{hold_of, log_of, seat_at}
 use Rattle.seats.specs.Seats.{clock_at}
 use Rattle.lives.specs.Traces.{Trace, events, posting, postings}
-use Rattle.lives.specs.Worked.{Moment, Worked}
+use Rattle.lives.specs.Worked.{Leads, Moment, Worked}
 
 module _ {B : Type 0} where
   -- a seat's log, and its hold
@@ -96,3 +96,15 @@ module _ {M B : Type 0} (kind : Kind M B) where
   -- at all times of every room's life
   abbrev pub AlwaysKeeps : Type 0
   AlwaysKeeps = (trace : Trace B) (w : Moment B) → Worked trace w → Keeps trace w
+
+  -- a moment in a life between its first and its last: the earlier steps led to it, and it led on by the later ones; and what a
+  -- room keeps, it kept there
+  pub record KeptAt (first : Moment B) (earlier later : Trace B) (last : Moment B) : Type 0 where
+    pub here : Moment B
+    pub led : Leads first earlier here
+    pub on : Leads here later last
+    pub keeps : Keeps earlier here
+
+  -- after each beginning of the trace, which has the newest step first
+  abbrev pub KeepsThroughout : Moment B → Trace B → Moment B → Type 0
+  KeepsThroughout first trace last = (later earlier : Trace B) → trace ≡ later ++ earlier → KeptAt first earlier later last

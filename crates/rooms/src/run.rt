@@ -3,7 +3,7 @@ ghost use Rattle.std.specs.Prelude.{◌≡◌, ℕ, ◌≤◌, [], length, drop,
 ghost use Rattle.letters.specs.Refusals.{told};
 ghost use Rattle.lives.specs.Traces.{answer_of, traced};
 ghost use Rattle.lives.specs.Worked.{Leads, Worked, moment};
-ghost use Rattle.lives.specs.Keeps.{Keeps};
+ghost use Rattle.lives.specs.Keeps.{AlwaysKeeps, Keeps, KeepsThroughout};
 ghost use Rattle.rooms.specs.Drafts.{draft_state, opened};
 ghost use Rattle.rooms.specs.Handing.{left_at, out_at};
 ghost use Rattle.rooms.specs.Running.{run_check};
@@ -39,15 +39,15 @@ pub fn check<B: Body, C: Carrier<Body = B>>(
     draft.check_open(logs, holds, carrier)
 }
 
-// A room to which a list of steps came, with the dockets that are out there.
+// A room in which a list of steps was made, with the dockets that are out there.
 pub struct Ended {
     pub room: Room,
     pub dockets: OutDockets,
 }
 
-// Opens the room, makes the steps in turn and writes down what each replies; of each seat whose docket is then out, it hands
-// the docket out. Whatever the steps are, the room keeps causal
-// order, complete delivery and convergence on every kind of sheet.
+// Opens the room, makes the steps in turn and writes down what each replies; of each seat whose docket is out in the end it
+// hands out the docket. Whatever the steps are, the room keeps causal order, complete delivery and convergence on every kind
+// of sheet, and did so after each step.
 pub fn run<B: Body, C: Carrier<Body = B>, K: Sheet<Body = B>>(
     draft: Draft,
     logs: &mut [Letter<B>],
@@ -60,6 +60,8 @@ pub fn run<B: Body, C: Carrier<Body = B>, K: Sheet<Body = B>>(
     ensures leads { Leads (moment (opened (draft_state draft)) logs.old holds.old (C.Carrier.meaning carrier.old)) (traced answer_of [] steps.now replies.new) (moment (state result.room) logs.new holds.new (C.Carrier.meaning carrier.new)) }
     ensures worked { Worked (traced answer_of [] steps.now replies.new) (moment (state result.room) logs.new holds.new (C.Carrier.meaning carrier.new)) }
     ensures keeps { Keeps K.Sheet.kind (traced answer_of [] steps.now replies.new) (moment (state result.room) logs.new holds.new (C.Carrier.meaning carrier.new)) }
+    ensures throughout { KeepsThroughout K.Sheet.kind (moment (opened (draft_state draft)) logs.old holds.old (C.Carrier.meaning carrier.old)) (traced answer_of [] steps.now replies.new) (moment (state result.room) logs.new holds.new (C.Carrier.meaning carrier.new)) }
+    ensures always { AlwaysKeeps K.Sheet.kind }
     ensures serves { Serves C.Carrier.meaning C.Carrier.puts C.Carrier.rests carrier.old (traced answer_of [] steps.now replies.new) carrier.new }
     ensures dockets { (s : ℕ) → left_at result.dockets s ≡ out_at (state result.room) s }
     ensures rest { drop (length steps.now) replies.new ≡ drop (length steps.now) replies.old }

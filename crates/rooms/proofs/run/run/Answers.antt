@@ -3,6 +3,7 @@ use Rattle.seats.specs.Rooms.{RoomState}
 use Rattle.lives.specs.Traces.{answer_of, traced}
 use Rattle.lives.specs.Worked.{Leads, Worked, moment}
 use Rattle.lives.proofs.Keeping.{always_keeps}
+use Rattle.lives.proofs.Throughout.{keeps_throughout}
 use Rattle.rooms.specs.Drafts.{draft_state, opened}
 use Rattle.rooms.specs.States.{state}
 use Rattle.rooms.proofs.Running.{as_opened, runnable}
@@ -19,11 +20,15 @@ returns g c =
     let after = moment (state now.room) now.logs now.holds (g.C.Carrier.meaning now.carrier) in
     let can = runnable (draft_state d) (length logs) (length holds) before (length c.args.steps.now) (length c.args.replies.now) c.requires in
     let leads = subst (λ (st : RoomState). Leads (moment st logs holds before) trace after) c.open-room.ensures.room c.step_all.ensures.leads in
-    let worked : Worked trace after = record { first = moment (opened (draft_state d)) logs holds before; opened = as_opened d logs holds before (g.C.Carrier.lawful c.args.carrier.now) _ _ can; led = leads } in
+    let first = moment (opened (draft_state d)) logs holds before in
+    let opens = as_opened d logs holds before (g.C.Carrier.lawful c.args.carrier.now) _ _ can in
+    let worked : Worked trace after = record { first = first; opened = opens; led = leads } in
     record {
       leads = leads;
       worked = worked;
       keeps = always_keeps g.K.Sheet.kind g.met.K.Sheet.lawful trace after worked;
+      throughout = keeps_throughout g.K.Sheet.kind g.met.K.Sheet.lawful first trace after opens leads;
+      always = always_keeps g.K.Sheet.kind g.met.K.Sheet.lawful;
       serves = c.step_all.ensures.serves;
       dockets = c.of-dockets.ensures;
       rest = c.step_all.ensures.rest;
