@@ -1,4 +1,5 @@
 pub mod Dispatching
 pub mod Chunking
 pub mod Leading
+pub mod Opening
 pub mod Pieces

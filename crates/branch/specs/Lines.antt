@@ -1,12 +1,14 @@
 -- The lines that the program prints, as bytes.
-use Rattle.std.specs.Prelude.{ℕ, List, ◌++◌, Ok, Err, Result, codes, decimal}
+use Rattle.std.specs.Prelude.{ℕ, zero, suc, List, [], ◌++◌, Ok, Err, Result, codes, decimal}
 use Rattle.std.specs.List.{flat_map}
 use Rattle.letters.specs.declared.letter.Letter.{Letter}
 use Rattle.letters.specs.declared.refusal.Refusal.{Refusal}
 use Rattle.letters.specs.Letters.{number_of}
 use Rattle.letters.specs.Names.{name_text}
-use Rattle.letters.specs.Refusals.{reason}
+use Rattle.letters.specs.Refusals.{Reason, reason}
+use Rattle.seats.specs.Rooms.{RoomState}
 use Rattle.seats.specs.Takings.{taken_text}
+use Rattle.rooms.specs.Reading.{log_answer}
 use Rattle.branch.specs.declared.step.Call.{Call}
 use Rattle.branch.specs.declared.step.Call.TheVariants as calls
 use Rattle.branch.specs.declared.step.Step.{Step}
@@ -54,3 +56,13 @@ after_space m = codes " " ++ name_text m.poster (number_of m)
 -- a log's line: its seat, and the names of its letters
 abbrev pub log_line : {B : Type 0} → ℕ → List (Letter B) → List ℕ
 log_line seat log = codes "log " ++ (decimal seat ++ (flat_map after_space log ++ codes "\n"))
+
+-- the line of a log that was asked for; none where there is no such log
+abbrev pub line_of : {B : Type 0} → ℕ → Result (List (Letter B)) Reason → List ℕ
+line_of seat (Ok log) = log_line seat log
+line_of seat (Err why) = []
+
+-- the lines of the logs of the first n seats of a room
+abbrev pub log_lines : {B : Type 0} → RoomState → List (Letter B) → ℕ → ℕ → List ℕ
+log_lines st logs holds zero = []
+log_lines st logs holds (suc n) = log_lines st logs holds n ++ line_of n (log_answer st logs holds n)

@@ -9,9 +9,9 @@ mod running;
 // A room, the two letter tables that are brought to its calls, and the carrier on which its letters go. The rooms check
 // has one of its own: a struct of another crate could have no methods of the program's own.
 #[derive(Drop)]
-pub struct Desk<'t, C> {
+pub struct Desk<'l, 'h, C> {
     pub room: Room,
-    pub logs: &'t mut [Letter<Job>],
-    pub holds: &'t mut [Letter<Job>],
+    pub logs: &'l mut [Letter<Job>],
+    pub holds: &'h mut [Letter<Job>],
     pub carrier: C,
 }

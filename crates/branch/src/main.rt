@@ -1,16 +1,21 @@
 // A box to try: a job room of three seats on lines.
 #![tactic(auto)]
 
-ghost use Rattle.std.specs.Prelude.{IfOk, IfSome, OnOk, []};
+ghost use Rattle.std.specs.Prelude.{◌≡◌, IfOk, IfSome, OnOk, [], length};
+ghost use Rattle.std.specs.Io.KnownBytes.{Appends};
+ghost use Rattle.carriers.specs.Lines.{lines_of};
+ghost use Rattle.carriers.specs.Meaning.{Empty};
 ghost use Rattle.lives.specs.Worked.{Worked};
-ghost use Rattle.branch.specs.Desks.{standing};
+ghost use Rattle.rooms.specs.Drafts.{opened};
+ghost use Rattle.rooms.specs.States.{state};
+ghost use Rattle.branch.specs.Desks.{standing, three_seats};
+ghost use Rattle.branch.specs.Lines.{log_lines};
 ghost use Rattle.branch.specs.Runs.{Filled, KeptOn, Led, Printed};
 
 use crate::desk::Desk;
 use crate::line::add_log;
 use carriers::carrier::Carrier;
 use carriers::lines::Lines;
-use letters::body::Body;
 use letters::job::Job;
 use letters::letter::Letter;
 use letters::stamp::Stamp;
@@ -54,7 +59,7 @@ fn drive<C: Carrier<Body = Job>, R: Read, W: Write>(
     alloc: Global,
     input: &mut R,
     output: &mut W,
-    desk: &mut Desk<'_, C>,
+    desk: &mut Desk<'_, '_, C>,
 ) -> io::Result<()>
     ensures led { OnOk result (Led (standing C.Carrier.meaning desk.old) (standing C.Carrier.meaning desk.new)) }
     ensures printed { OnOk result (IfSome (R.remaining input.old) (λ bytes. Printed bytes (standing C.Carrier.meaning desk.old) (W.contents output.old) (W.contents output.new) (standing C.Carrier.meaning desk.new))) }
@@ -79,7 +84,7 @@ fn drive<C: Carrier<Body = Job>, R: Read, W: Write>(
 // kind that has jobs.
 fn run<K: Sheet<Body = Job>, C: Carrier<Body = Job>>(
     rt: &HostRuntime,
-    desk: &mut Desk<'_, C>,
+    desk: &mut Desk<'_, '_, C>,
 ) -> io::Result<()>
     requires { Worked [] (standing C.Carrier.meaning desk.old) }
     ensures { OnOk result (KeptOn K.Sheet.kind (standing C.Carrier.meaning desk.new)) }
@@ -87,16 +92,44 @@ fn run<K: Sheet<Body = Job>, C: Carrier<Body = Job>>(
     drive(rt.alloc(), &mut rt.stdin(), &mut io::writer(rt), desk)
 }
 
-// Prints the logs of the first seats.
-fn print_logs<C>(rt: &HostRuntime, desk: &Desk<'_, C>, seats: u8) -> io::Result<()> {
-    let mut lines = String::new(rt.alloc());
-    // A seat's number is what the call takes; nothing is looked up by it here.
-    for seat in 0..seats {
+// Prints the logs of all seats.
+fn print_logs<C, W: Write>(alloc: Global, output: &mut W, desk: &Desk<'_, '_, C>) -> io::Result<()>
+    ensures { OnOk result (Appends (W.contents output.old) (W.contents output.new) (log_lines (state desk.now.room) desk.now.logs.now (length desk.now.holds.now) (state desk.now.room).count)) }
+{
+    let mut lines = String::new(alloc);
+    // No room has more seats, and a seat that this one lacks has no log.
+    for seat in 0..16 {
         if let Ok(log) = desk.room.log(desk.logs, desk.holds, seat) {
             add_log(&mut lines, seat, log)?;
         }
     }
-    rt.print(&lines)
+    output.write_all(lines.as_bytes())
+}
+
+// Opens a room of three seats and quota 4 over these tables, on lines with four places for each seat.
+fn open_room<'l, 'h, 'q>(
+    logs: &'l mut [Letter<Job>; 36],
+    holds: &'h mut [Letter<Job>; 36],
+    queues: &'q mut [Letter<Job>; 12],
+) -> Desk<'l, 'h, Lines<'q, Job>>
+    ensures room { state result.room ≡ opened three_seats }
+    ensures tables { (result.logs.now ≡ logs.old) × (result.holds.now ≡ holds.old) }
+    ensures lines { ((lines_of result.carrier).seats ≡ 3) × (result.carrier.size ≡ 4) × Empty (lines_of result.carrier) }
+    ensures worked { Worked [] (standing lines_of result) }
+{
+    let mut draft = Draft::new(1, 4);
+    // Names are any numbers but 0. A no would show at the opening.
+    let _ = draft.enrol(1);
+    let _ = draft.enrol(2);
+    let _ = draft.enrol(3);
+    let carrier = Lines::new(queues, 3, 4);
+    let room = draft.open(logs, holds, &carrier);
+    Desk {
+        room,
+        logs,
+        holds,
+        carrier,
+    }
 }
 
 fn main(rt: HostRuntime) -> io::Result<()> {
@@ -104,23 +137,7 @@ fn main(rt: HostRuntime) -> io::Result<()> {
     let mut logs = [blank; 36];
     let mut holds = [blank; 36];
     let mut queues = [blank; 12];
-    let mut draft = Draft::new(1, 4);
-    // Names are any numbers but 0.
-    for name in [1, 2, 3] {
-        // A no would show at the opening.
-        let _ = draft.enrol(name);
-    }
-    let carrier = Lines::new(&mut queues, 3, 4);
-    draft
-        .check_open(&logs, &holds, &carrier)
-        .map_err(|_| io::Error::from(io::ErrorKind::InvalidInput))?;
-    let room = draft.open(&logs, &holds, &carrier);
-    let mut desk = Desk {
-        room,
-        logs: &mut logs,
-        holds: &mut holds,
-        carrier,
-    };
+    let mut desk = open_room(&mut logs, &mut holds, &mut queues);
     run::<JobList, Lines<Job>>(&rt, &mut desk)?;
-    print_logs(&rt, &desk, 3)
+    print_logs(rt.alloc(), &mut io::writer(&rt), &desk)
 }

@@ -15,7 +15,7 @@ use letters::job::Job;
 use letters::refusal::Refusal;
 use rooms::docket::{Docket, Returned};
 
-impl<C: Carrier<Body = Job>> Desk<'_, C> {
+impl<C: Carrier<Body = Job>> Desk<'_, '_, C> {
     // Makes one step, and answers what it came to. A docket is sent at once, and parked where that is refused.
     pub fn make_step(&mut self, step: Step) -> Result<Outcome, Refusal>
         ensures { Turn step.seat step.call (standing C.Carrier.meaning self.old) result (standing C.Carrier.meaning self.new) }

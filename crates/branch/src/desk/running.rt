@@ -13,7 +13,7 @@ use std::alloc::AllocError;
 // How many bytes a step has.
 const STEP: usize = 8;
 
-impl<C: Carrier<Body = Job>> Desk<'_, C> {
+impl<C: Carrier<Body = Job>> Desk<'_, '_, C> {
     // Makes the step that the bytes write and adds its line, or adds the line of what is no step.
     fn try_step(
         &mut self,
