@@ -33,11 +33,10 @@ pub trait Sheet {
     fn clear(&mut self)
         ensures { meaning self.new ≡ kind.empty };
 
-    // Enters a letter; 18 where no place is free.
+    // Enters a letter; 18 where no place is free, and what the sheet means stays.
     fn enter(&mut self, letter: &Letter<Self::Body>) -> Result<(), Refusal>
         ensures answer { told (λ u. u) result ≡ answered (enter_outcome kind (meaning self.old) letter.now) }
-        ensures leaves { meaning self.new ≡ left_by (enter_outcome kind (meaning self.old) letter.now) (meaning self.old) }
-        ensures untouched { kind.count (meaning self.old) ≡ kind.places → self.new ≡ self.old };
+        ensures leaves { meaning self.new ≡ left_by (enter_outcome kind (meaning self.old) letter.now) (meaning self.old) };
 
     ghost sized: { kind.places ≡ PLACES };
 

@@ -1,7 +1,9 @@
 // Which jobs a job list has open, and how letters are entered there.
 ghost use Rattle.std.specs.Prelude.{◌≡◌, ◌+◌, ◌<◌, ◌≤◌, true, length, position, refl};
+ghost use Rattle.letters.specs.Refusals.{told};
 ghost use Rattle.sheets.specs.JobLists.{CodesFollow, Listed, code_in, job_list_kind, listed_by, no_jobs, open_job, with_job, without_job};
 ghost use Rattle.arrayvec.specs.ArrayVec.{array_vec_len};
+ghost use Rattle.sheets.specs.Sheets.{answered, enter_outcome, left_by};
 ghost use Rattle.sheets.specs.OpenJobs.{job_after, job_is, rising};
 ghost use Rattle.sheets.specs.JobSwaps.{jobs_swap};
 
@@ -130,7 +132,11 @@ impl Sheet for JobList {
         self.entered = 0;
     }
 
-    fn enter(&mut self, letter: &Letter<Job>) -> Result<(), Refusal> {
+    fn enter(&mut self, letter: &Letter<Job>) -> Result<(), Refusal>
+        ensures answer { told (λ u. u) result ≡ answered (enter_outcome job_list_kind (listed_by self.old) letter.now) }
+        ensures leaves { listed_by self.new ≡ left_by (enter_outcome job_list_kind (listed_by self.old) letter.now) (listed_by self.old) }
+        ensures untouched { job_list_kind.count (listed_by self.old) ≡ job_list_kind.places → self.new ≡ self.old }
+    {
         if self.entered == Self::PLACES {
             return Err(Refusal::SheetFull);
         }

@@ -1,8 +1,10 @@
 // What a timeline shows, and how letters are entered there.
 ghost use Rattle.std.specs.Prelude.{◌≡◌, ◌+◌, true, length, refl};
+ghost use Rattle.letters.specs.Refusals.{told};
 ghost use Rattle.sheets.specs.Pages.{page_count};
 ghost use Rattle.sheets.specs.Placing.{in_order};
 ghost use Rattle.sheets.specs.RowOrder.{row_after};
+ghost use Rattle.sheets.specs.Sheets.{answered, enter_outcome, left_by};
 ghost use Rattle.sheets.specs.Timelines.{Shown, no_rows, row_of, shown_by, timeline_kind};
 ghost use Rattle.sheets.specs.Beside.{beside_posters};
 ghost use Rattle.sheets.specs.Rows.{placed_swap};
@@ -97,7 +99,11 @@ impl Sheet for Timeline {
     }
 
     #[tactic(auto, using(crate::proofs::Orders::rows_in_order))]
-    fn enter(&mut self, letter: &Letter<Text>) -> Result<(), Refusal> {
+    fn enter(&mut self, letter: &Letter<Text>) -> Result<(), Refusal>
+        ensures answer { told (λ u. u) result ≡ answered (enter_outcome timeline_kind (shown_by self.old) letter.now) }
+        ensures leaves { shown_by self.new ≡ left_by (enter_outcome timeline_kind (shown_by self.old) letter.now) (shown_by self.old) }
+        ensures untouched { timeline_kind.count (shown_by self.old) ≡ timeline_kind.places → self.new ≡ self.old }
+    {
         if self.rows.is_full() {
             return Err(Refusal::SheetFull);
         }
