@@ -2,7 +2,8 @@
 use Rattle.std.proofs.Common.{◌≡◌, ℕ, Some, None, Ok, Err, Option, Result, slice_index, refl, sym, ap, ◌∙◌}
 use Rattle.letters.specs.Refusals.{Reason}
 use Rattle.records.specs.declared.fault.Fault.{Fault}
-use Rattle.records.specs.Readers.{Found, at_end, right, wrong, next_answer, told_fault}
+use Rattle.records.specs.Faults.{told_fault}
+use Rattle.records.specs.Readers.{Found, at_end, right, wrong, next_answer}
 
 -- what an answer tells
 abbrev pub told_found : Result (Option ℕ) Reason → Found

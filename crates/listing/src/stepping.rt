@@ -1,6 +1,7 @@
 // Listing record by record.
 ghost use Rattle.std.specs.Prelude.{◌≡◌, ◌++◌, IfOk, OnOk, string_bytes};
-ghost use Rattle.records.specs.Readers.{ahead, found, next_answer, told_fault};
+ghost use Rattle.records.specs.Faults.{told_fault};
+ghost use Rattle.records.specs.Readers.{ahead, found, next_answer};
 ghost use Rattle.listing.specs.Lines.{step_line};
 ghost use Rattle.listing.specs.Stepping.{AskedOnce};
 

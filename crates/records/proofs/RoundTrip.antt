@@ -1,5 +1,5 @@
 -- A letter's record is right, and writes that letter's parts and no others.
-use Rattle.std.proofs.Common.{◌≡◌, ℕ, ◌+◌, ◌-◌, ◌*◌, ◌<◌, ◌≤◌, true, ltb, leb, List, length, get_or, take, Some, None, Ok, Option, Result, sym, refl, ap, ◌∙◌, subst, arith}
+use Rattle.std.proofs.Common.{◌≡◌, ℕ, ◌+◌, ◌-◌, ◌*◌, ◌<◌, ◌≤◌, true, ltb, leb, List, length, get_or, take, Some, None, Ok, Err, Option, Result, sym, refl, ap, ◌∙◌, subst, arith}
 use Rattle.std.proofs.lemmas.List.{length-take-le}
 use Rattle.std.proofs.lemmas.Bool.{le-leb, lt-ltb, leb-true}
 use Rattle.letters.specs.declared.letter.Letter.{Letter}
@@ -10,6 +10,8 @@ use Rattle.letters.specs.Letters.{parts, parts_of, entry_at, letter_check}
 use Rattle.letters.specs.Numbers.{number_16}
 use Rattle.letters.specs.ChecksLemmas.{passed, some_none}
 use Rattle.records.specs.Records.{body_part, first_of, is_zero, kind_byte, length_byte, padding, parts_record, parts_written, poster_byte, record_of, record_size, stamp_bytes, stamp_of, wrong_byte, wrong_front, wrong_header}
+use Rattle.records.specs.declared.fault.Fault.{Fault}
+use Rattle.records.specs.Faults.{told_fault}
 use Rattle.records.specs.Reading.{Begins, LeftBy, Undoes, parts_left, read_answer}
 use Rattle.records.proofs.Entries.{paired_written, number_front}
 use Rattle.records.proofs.Headers.{RightHeader, header_right, right_header}
@@ -22,6 +24,10 @@ first_none start (Some place) later e = some_none (start + place) e
 accepted : (f : Option ℕ) → read_answer f ≡ Ok tt → f ≡ None
 accepted None e = refl
 accepted (Some place) e = let z : ◌≡◌ {A = ℕ} 0 1 = cc in absurd (omega arith)
+
+read_ok : (r : Result (Unit {0}) Fault) → told_fault r ≡ Ok tt → r ≡ Ok tt
+read_ok (Ok done) e = refl
+read_ok (Err fault) e = let z : ◌≡◌ {A = ℕ} 0 1 = cc in absurd (omega arith)
 
 module _ {B : Type 0} (form : Form B) (laws : Lawful form) where
   -- a letter's record has 96 bytes
@@ -163,6 +169,6 @@ module _ {B : Type 0} (form : Form B) (laws : Lawful form) where
         (λ e. let found = left_undoes.only e in found.1 ∙ sym (begun bs found.0 found.2).1)
 
     -- the same, by what a read answers
-    pub read_undoes : (r : Result (Unit {0}) ℕ) → r ≡ read_answer (wrong_front form bs) → Undoes form bs (r ≡ Ok tt) new
+    pub read_undoes : (r : Result (Unit {0}) Fault) → told_fault r ≡ read_answer (wrong_front form bs) → Undoes form bs (r ≡ Ok tt) new
     read_undoes r is =
-        undoes_as bs bs new refl (λ e. is ∙ ap read_answer e) (λ e. accepted (wrong_front form bs) (sym is ∙ e)) left_undoes
+        undoes_as bs bs new refl (λ e. read_ok r (is ∙ ap read_answer e)) (λ e. accepted (wrong_front form bs) (sym is ∙ ap told_fault e)) left_undoes

@@ -7,7 +7,8 @@ use Rattle.letters.specs.Refusals.{Reason, plain, unless}
 use Rattle.records.specs.declared.fault.Fault.{Fault}
 use Rattle.records.specs.declared.load_refusal.LoadRefusal.{LoadRefusal}
 use Rattle.records.specs.declared.load_refusal.LoadRefusal.TheVariants.{Bad, TooShort}
-use Rattle.records.specs.Readers.{fault_reason, left}
+use Rattle.records.specs.Faults.{fault_reason}
+use Rattle.records.specs.Readers.{left}
 use Rattle.records.specs.Records.{record_of, record_size, wrong_front}
 
 -- the number and the values of each reason not to load a file

@@ -1,5 +1,6 @@
 pub mod Buffers
 pub mod Records
+pub mod Faults
 pub mod Reading
 pub mod Readers
 pub mod Files

@@ -1,25 +1,13 @@
 -- A file of records, read one after another.
-use Rattle.std.specs.Prelude.{◌≡◌, ℕ, ◌+◌, ◌*◌, cond, List, [], ◌∷◌, length, take, drop, Some, None, Ok, Err, Option, Result, ◌==◌}
+use Rattle.std.specs.Prelude.{◌≡◌, ℕ, ◌+◌, ◌*◌, cond, List, length, take, drop, Some, None, Ok, Err, Option, Result, ◌==◌}
 use Rattle.letters.specs.Forms.{Form}
 use Rattle.letters.specs.declared.parts.Parts.{Parts}
 use Rattle.letters.specs.Refusals.{Reason}
 use Rattle.records.specs.declared.fault.Fault.{Fault}
 use Rattle.records.specs.declared.reader.Reader.{Reader}
+use Rattle.records.specs.Faults.{bad_record, told_fault}
 use Rattle.records.specs.Reading.{Undoes}
 use Rattle.records.specs.Records.{parts_written, record_size, wrong_front}
-
--- a bad record: number 20, with the record's index and its first wrong byte
-abbrev pub bad_record : ℕ → ℕ → Reason
-bad_record index byte = record { number = 20; values = index ∷ byte ∷ [] }
-
--- the number and the values of a fault
-abbrev pub fault_reason : Fault → Reason
-fault_reason fault = bad_record fault.index fault.byte
-
--- a reader's answer as its caller sees it
-abbrev pub told_fault : {X : Type 0} → Result X Fault → Result X Reason
-told_fault (Ok x) = Ok x
-told_fault (Err fault) = Err (fault_reason fault)
 
 -- what is left of a file after some records
 abbrev pub left : List ℕ → ℕ → List ℕ

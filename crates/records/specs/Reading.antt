@@ -4,12 +4,15 @@ use Rattle.letters.specs.declared.letter.Letter.{Letter}
 use Rattle.letters.specs.Forms.{Form}
 use Rattle.letters.specs.declared.parts.Parts.{Parts}
 use Rattle.letters.specs.Letters.{parts_of}
+use Rattle.letters.specs.Refusals.{Reason}
+use Rattle.records.specs.declared.fault.Fault.{Fault}
+use Rattle.records.specs.Faults.{bad_record, told_fault}
 use Rattle.records.specs.Records.{parts_record, parts_written, record_size, wrong_front}
 
--- a record in which nothing is wrong is read; else its first wrong byte is answered
-abbrev pub read_answer : Option ℕ → Result (Unit {0}) ℕ
+-- A record in which nothing is wrong is read; else its first wrong byte is answered. It is the record at the front.
+abbrev pub read_answer : Option ℕ → Result (Unit {0}) Reason
 read_answer None = Ok tt
-read_answer (Some place) = Err place
+read_answer (Some byte) = Err (bad_record 0 byte)
 
 module _ {B : Type 0} (form : Form B) where
   -- what a read of the record at the front of some bytes leaves in the parts that were lent
@@ -33,7 +36,7 @@ module _ {B : Type 0} (form : Form B) where
     pub only : accepted → (m : Letter B) × (read ≡ parts_of m) × Begins bs (parts_of m)
 
   -- what reading the record at the front of some bytes does: its answer, the parts that it leaves, and that it undoes writing
-  pub record RecordRead (bs : List ℕ) (old new : Parts B) (r : Result (Unit {0}) ℕ) : Type 0 where
-    pub answer : r ≡ read_answer (wrong_front form bs)
+  pub record RecordRead (bs : List ℕ) (old new : Parts B) (r : Result (Unit {0}) Fault) : Type 0 where
+    pub answer : told_fault r ≡ read_answer (wrong_front form bs)
     pub filled : new ≡ parts_left bs (wrong_front form bs) old
     pub undoes : Undoes bs (r ≡ Ok tt) new

@@ -2,10 +2,12 @@
 ghost use Rattle.std.specs.Prelude.{◌≡◌, ◌≤◌, not, ◌++◌, drop, None};
 ghost use Rattle.std.specs.List.{position};
 ghost use Rattle.letters.specs.Checks.{first_failing};
+ghost use Rattle.records.specs.Faults.{told_fault};
 ghost use Rattle.records.specs.Reading.{LeftBy, RecordRead, read_answer};
 ghost use Rattle.records.specs.Records.{body_part, is_zero, kind_byte, record_of, wrong_byte, wrong_front, wrong_header};
 
 use crate::bytes::{number_at, put};
+use crate::fault::Fault;
 use crate::stamps::{read_stamp, write_stamp};
 use letters::body::{BODY_SPACE, Body};
 use letters::letter::Letter;
@@ -33,24 +35,27 @@ fn assemble(stamp: &[u8; 32], header: &[u8; 4], body: &[u8; BODY_SPACE]) -> [u8;
     record
 }
 
-// Fills the lent parts with those of the letter whose record stands at the front, or answers the first wrong byte. That is a
-// place in the record, a number and no kind of error.
-pub fn read_record<B: Body>(bytes: &[u8], parts: &mut Parts<B>) -> Result<(), u8>
+// Fills the lent parts with those of the letter whose record stands at the front; 20, with the index 0 and the first wrong
+// byte, where none does.
+pub fn read_record<B: Body>(bytes: &[u8], parts: &mut Parts<B>) -> Result<(), Fault>
     ensures { RecordRead B.form bytes.now parts.old parts.new result }
 {
     match bytes.first_chunk::<RECORD_SIZE>() {
         Some(record) => read_whole(record, parts),
-        None => Err(bytes.len() as u8),
+        None => Err(Fault {
+            index: 0,
+            byte: bytes.len() as u8,
+        }),
     }
 }
 
 // The same of a whole record: looks first, then fills.
-fn read_whole<B: Body>(bytes: &[u8; RECORD_SIZE], parts: &mut Parts<B>) -> Result<(), u8>
-    ensures answer { result ≡ read_answer (wrong_byte B.form bytes.now) }
+fn read_whole<B: Body>(bytes: &[u8; RECORD_SIZE], parts: &mut Parts<B>) -> Result<(), Fault>
+    ensures answer { told_fault result ≡ read_answer (wrong_byte B.form bytes.now) }
     ensures left { LeftBy B.form bytes.now parts.old parts.new (wrong_byte B.form bytes.now) }
 {
-    if let Some(place) = wrong_byte::<B>(bytes) {
-        return Err(place);
+    if let Some(byte) = wrong_byte::<B>(bytes) {
+        return Err(Fault { index: 0, byte });
     }
     *parts = Parts {
         stamp: read_stamp(bytes),

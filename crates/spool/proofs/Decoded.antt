@@ -8,8 +8,11 @@ use Rattle.letters.specs.declared.parts.Parts.{Parts}
 use Rattle.letters.specs.Letters.{parts_of}
 use Rattle.letters.specs.ChecksLemmas.{some_none}
 use Rattle.letters.specs.Same.{same_letter}
+use Rattle.records.specs.declared.fault.Fault.{Fault}
+use Rattle.records.specs.Faults.{fault_reason}
 use Rattle.records.specs.Reading.{Undoes, read_answer}
 use Rattle.records.specs.Records.{record_of, record_size, wrong_byte, wrong_front}
+use Rattle.records.proofs.Finding.{answered_wrong}
 use Rattle.records.proofs.RoundTrip.{front_whole, record_right, written_back}
 use Rattle.spool.specs.Decoding.{blank_letter, letter_of, letter_or, letter_parts, letter_read}
 
@@ -33,10 +36,6 @@ module _ {B : Type 0} (blank : B) where
   read_bad p None place e = some_none place (sym e)
   read_bad p (Some other) place e = refl
 
-  refused : (f : Option ℕ) (place : ℕ) → Err place ≡ read_answer f → f ≡ Some place
-  refused None place e = let z : ◌≡◌ {A = ℕ} 0 1 = cc in absurd (omega arith)
-  refused (Some other) place e = cc
-
   module _ (form : Form B) (laws : Lawful form) where
     -- reading undoes writing
     pub letter_back : (m : Letter B) → letter_of form blank (record_of form m) ≡ m
@@ -54,7 +53,7 @@ module _ {B : Type 0} (blank : B) where
           found.1 ∙ sym (ap (λ l. parts_of (letter_of form blank l)) is ∙ ap parts_of (letter_back found.0))
 
       -- bytes that are no record stand for the blank letter
-      pub letter_read_wrong : (place : ℕ) → Err place ≡ read_answer (wrong_front form bs) → letter_of form blank bs ≡ blank_letter blank
-      letter_read_wrong place e =
+      pub letter_read_wrong : (fault : Fault) → Err (fault_reason fault) ≡ read_answer (wrong_front form bs) → letter_of form blank bs ≡ blank_letter blank
+      letter_read_wrong fault e =
           let front : wrong_front form bs ≡ wrong_byte form bs = front_whole form laws bs (omega arith) ∙ ap (wrong_byte form) whole in
-          read_bad _ _ place (sym front ∙ refused _ place e)
+          read_bad _ _ fault.byte (sym front ∙ answered_wrong fault _ e)

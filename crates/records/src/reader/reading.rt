@@ -36,7 +36,7 @@ impl<'a, B: Body> Reader<'a, B> {
                 self.index = index + 1;
                 Ok(Some(index))
             }
-            Err(byte) => Err(Fault { index, byte }),
+            Err(fault) => Err(Fault { index, ..fault }),
         }
     }
 }

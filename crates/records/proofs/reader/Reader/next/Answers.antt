@@ -17,7 +17,7 @@ returns-in-Err g c =
     let old = c.args.parts.now in
     let new = c.read_record.new.parts in
     let told = c.in-Err.ensures in
-    let found = found_wrong form bs c.in-Err.byte old new some
+    let found = found_wrong form bs c.in-Err.fault old new some
     (told.answer ∙ ap (λ l. read_answer (wrong_front form l)) part)
     (told.filled ∙ ap (λ l. parts_left form l (wrong_front form l) old) part) in
     record {

@@ -1,0 +1,17 @@
+-- The number that goes with a bad record.
+use Rattle.std.specs.Prelude.{ℕ, [], ◌∷◌, Ok, Err, Result}
+use Rattle.letters.specs.Refusals.{Reason}
+use Rattle.records.specs.declared.fault.Fault.{Fault}
+
+-- a bad record: number 20, with the record's index and its first wrong byte
+abbrev pub bad_record : ℕ → ℕ → Reason
+bad_record index byte = record { number = 20; values = index ∷ byte ∷ [] }
+
+-- the number and the values of a fault
+abbrev pub fault_reason : Fault → Reason
+fault_reason fault = bad_record fault.index fault.byte
+
+-- an answer as its caller sees it
+abbrev pub told_fault : {X : Type 0} → Result X Fault → Result X Reason
+told_fault (Ok x) = Ok x
+told_fault (Err fault) = Err (fault_reason fault)
