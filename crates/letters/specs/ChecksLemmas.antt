@@ -1,8 +1,8 @@
 -- What it says that every check passed, and where checks look.
-use Rattle.std.specs.Prelude.{◌≡◌, ℕ, zero, suc, ◌+◌, ◌<◌, ◌≤◌, Bool, true, false, not, cond, List, [], ◌∷◌, length, drop, Some, None, Option, slice_index, refl}
+use Rattle.std.specs.Prelude.{◌≡◌, ℕ, zero, suc, ◌+◌, ◌<◌, ◌≤◌, Bool, true, false, not, cond, ◌⊎◌, List, [], ◌∷◌, length, drop, Some, None, Option, slice_index, refl}
 use Rattle.std.specs.List.{position, position_from}
 use Rattle.std.specs.Option.{option_map}
-use Rattle.std.proofs.Common.{ap, ◌∙◌, arith}
+use Rattle.std.proofs.Common.{inl, inr, sym, ap, ◌∙◌, arith}
 use Rattle.std.proofs.lemmas.Iterator.Adapters.{position_from-zero}
 use Rattle.std.proofs.lemmas.List.{at_drop_more, at_drop_all}
 use Rattle.letters.specs.Checks.{check, first_failing}
@@ -14,6 +14,12 @@ some_none place e = let z : ◌≡◌ {A = ℕ} 0 1 = cc in absurd (omega arith)
 pub passed : (test : Bool) (place : ℕ) (later : Option ℕ) → check test place later ≡ None → (test ≡ true) × (later ≡ None)
 passed true place later e = (refl, e)
 passed false place later e = some_none place e
+
+-- a check that names a place failed there, or later
+pub failed : (test : Bool) (at : ℕ) (later : Option ℕ) (place : ℕ) → check test at later ≡ Some place
+    → ((test ≡ false) × (place ≡ at)) ⊎ ((test ≡ true) × (later ≡ Some place))
+failed true at later place e = inr (refl, e)
+failed false at later place e = inl (refl, cc)
 
 pub near_check : (test : Bool) (place : ℕ) (later : Option ℕ) → place ≤ body_space → Near later → Near (check test place later)
 near_check true place later h k = k
@@ -61,6 +67,29 @@ module _ (test : ℕ → Bool) where
 
   pub none_left : (bs : List ℕ) (k : ℕ) → length bs ≤ k → first_failing test k (drop k bs) ≡ None
   none_left bs k h = at_drop_all (first_failing test k) bs k h
+
+  -- the first that fails does, and those before it pass
+  pub record Fails (start : ℕ) (bs : List ℕ) (place : ℕ) : Type 0 where
+    pub at : ℕ
+    pub is : place ≡ start + at
+    pub inside : at < length bs
+    pub fails : test (slice_index bs at) ≡ false
+    pub before : (k : ℕ) → k < at → test (slice_index bs k) ≡ true
+
+  pub fails_at : (start : ℕ) (bs : List ℕ) (place : ℕ) → first_failing test start bs ≡ Some place → Fails start bs place
+  fails_at start [] place e = some_none place (sym e)
+  fails_at start (b ∷ bs) place e = go (failed (test b) start (first_failing test (start + 1) bs) place e) (fails_at (start + 1) bs place)
+    where
+      passing : (r : Fails (start + 1) bs place) → test b ≡ true → (k : ℕ) → k < suc r.at → test (slice_index (b ∷ bs) k) ≡ true
+      passing r here zero h = here
+      passing r here (suc k) h = r.before k (omega arith)
+
+      go : ((test b ≡ false) × (place ≡ start)) ⊎ ((test b ≡ true) × (first_failing test (start + 1) bs ≡ Some place))
+          → (first_failing test (start + 1) bs ≡ Some place → Fails (start + 1) bs place) → Fails start (b ∷ bs) place
+      go (inl here) next = record { at = 0; is = omega (arith, here.1); inside = omega arith; fails = here.0; before = λ k h. absurd (omega arith) }
+      go (inr later) next =
+          let r = next later.1 in
+          record { at = suc r.at; is = omega (arith, r.is); inside = omega (arith, r.inside); fails = r.fails; before = passing r later.0 }
 
   -- none fails just when each passes
   pub each_passes : (place : ℕ) (bs : List ℕ) → first_failing test place bs ≡ None → (k : ℕ) → k < length bs → test (slice_index bs k) ≡ true

@@ -28,6 +28,10 @@ strike_wrong bs =
 abbrev pub job_wrong : List ℕ → Option ℕ
 job_wrong bs = cond (length bs == 5) (add_wrong bs) (cond (length bs == 4) (strike_wrong bs) (Some 0))
 
+-- the last two bytes of a strike are one number, which is looked at as one
+abbrev pub job_starts : ℕ → ℕ → ℕ
+job_starts n place = cond (n == 4 && place == 3) 2 place
+
 -- the strike of p.n, and some job where there is no such letter
 unfoldable pub strike_or_none : (p n : ℕ) (can : Bool) → (nat_lt p 16 && nat_lt 0 n) ≡ can → Job
 strike_or_none p n true e =
@@ -50,6 +54,7 @@ job_form = record {
   has_kind = λ k. (k == 2);
   has_length = λ k n. (n == 4) || (n == 5);
   wrong = λ k bs. job_wrong bs;
+  starts = λ k n place. job_starts n place;
   body = λ k bs. job_of bs;
 }
 

@@ -58,6 +58,7 @@ text_form = record {
   has_kind = λ k. (k == 1);
   has_length = λ k n. nat_le n longest_text;
   wrong = λ k bs. text_wrong bs;
+  starts = λ k n place. place;
   body = λ k bs. text_of bs;
 }
 

@@ -29,6 +29,14 @@ answered_right : (f : Option ℕ) → Ok tt ≡ read_answer f → f ≡ None
 answered_right None e = refl
 answered_right (Some place) e = let z : ◌≡◌ {A = ℕ} 0 1 = cc in absurd (omega arith)
 
+-- the byte of a fault, and that no answer is both
+abbrev pub named_byte : {X : Type 0} → Result X Fault → ℕ
+named_byte (Ok x) = 0
+named_byte (Err fault) = fault.byte
+
+pub ok_err : {X : Type 0} (x : X) (fault : Fault) → ¬ (Ok x ≡ Err fault)
+ok_err x fault e = let z : ◌≡◌ {A = ℕ} 0 1 = cc in absurd (omega arith)
+
 module _ {B : Type 0} (form : Form B) (bs : List ℕ) where
   some_found : 0 < length bs → found form bs ≡ looked_at (wrong_front form bs)
   some_found some = let e : eqb (length bs) 0 ≡ false = ne_eqb (length bs) 0 (λ z. omega arith) in rw e

@@ -5,6 +5,7 @@ pub mod Made
 pub mod Padding
 pub mod Parts
 pub mod RoundTrip
+pub mod Naming
 pub mod Finding
 pub mod Faults
 pub mod Filing

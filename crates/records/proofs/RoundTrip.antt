@@ -1,7 +1,7 @@
 -- A letter's record is right, and writes that letter's parts and no others.
-use Rattle.std.proofs.Common.{◌≡◌, ℕ, ◌+◌, ◌-◌, ◌*◌, ◌<◌, ◌≤◌, true, ltb, leb, List, length, get_or, take, Some, None, Ok, Err, Option, Result, sym, refl, ap, ◌∙◌, subst, arith}
+use Rattle.std.proofs.Common.{◌≡◌, ℕ, ◌+◌, ◌-◌, ◌*◌, ◌<◌, ◌≤◌, true, false, ltb, leb, List, length, get_or, take, Some, None, Ok, Err, Option, Result, sym, refl, ap, ◌∙◌, subst, arith}
 use Rattle.std.proofs.lemmas.List.{length-take-le}
-use Rattle.std.proofs.lemmas.Bool.{le-leb, lt-ltb, leb-true}
+use Rattle.std.proofs.lemmas.Bool.{le-leb, lt-leb, lt-ltb, leb-true}
 use Rattle.letters.specs.declared.letter.Letter.{Letter}
 use Rattle.letters.specs.Checks.{first_failing}
 use Rattle.letters.specs.Forms.{Form, Lawful, body_space}
@@ -113,6 +113,10 @@ module _ {B : Type 0} (form : Form B) (laws : Lawful form) where
   -- of 96 bytes and more, the first wrong byte is that of the record in front
   pub front_whole : (bs : List ℕ) → record_size ≤ length bs → wrong_front form bs ≡ wrong_byte form (take record_size bs)
   front_whole bs long = let e : leb record_size (length bs) ≡ true = le-leb record_size (length bs) long in rw e
+
+  -- of fewer, how many there are
+  pub front_short : (bs : List ℕ) → length bs < record_size → wrong_front form bs ≡ Some (length bs)
+  front_short bs few = let e : leb record_size (length bs) ≡ false = lt-leb record_size (length bs) few in rw e
 
   pub front_right : (bs : List ℕ) → wrong_front form bs ≡ None → (record_size ≤ length bs) × (wrong_byte form (take record_size bs) ≡ None)
   front_right bs e =

@@ -6,6 +6,7 @@ use Rattle.letters.specs.Refusals.{Reason}
 use Rattle.records.specs.declared.fault.Fault.{Fault}
 use Rattle.records.specs.declared.reader.Reader.{Reader}
 use Rattle.records.specs.Faults.{bad_record, told_fault}
+use Rattle.records.specs.Naming.{Named}
 use Rattle.records.specs.Reading.{Undoes}
 use Rattle.records.specs.Records.{parts_written, record_size, wrong_front}
 
@@ -51,11 +52,12 @@ next_parts form bs old at_end = old
 next_parts form bs old right = parts_written form (take record_size bs)
 next_parts form bs old (wrong byte) = old
 
--- what one read of a reader does: its answer, where it stands then, that it keeps its bytes, the parts that it leaves, and
--- that it undoes writing
+-- what one read of a reader does: its answer, where it stands then, that it keeps its bytes, the parts that it leaves, that it
+-- undoes writing, and what it means that a byte is named
 pub record NextRead {B : Type 0} (form : Form B) (before after : Reader B) (old new : Parts B) (r : Result (Option ℕ) Fault) : Type 0 where
   pub answer : told_fault r ≡ next_answer before.index (found form (ahead before))
   pub moved : after.index ≡ next_index before.index (found form (ahead before))
   pub lent : after.bytes ≡ before.bytes
   pub filled : new ≡ next_parts form (ahead before) old (found form (ahead before))
   pub undoes : Undoes form (ahead before) (r ≡ Ok (Some before.index)) new
+  pub named : (fault : Fault) → r ≡ Err fault → Named form (ahead before) fault.byte

@@ -7,6 +7,7 @@ use Rattle.letters.specs.Letters.{parts_of}
 use Rattle.letters.specs.Refusals.{Reason}
 use Rattle.records.specs.declared.fault.Fault.{Fault}
 use Rattle.records.specs.Faults.{bad_record, told_fault}
+use Rattle.records.specs.Naming.{Named}
 use Rattle.records.specs.Records.{parts_record, parts_written, record_size, wrong_front}
 
 -- A record in which nothing is wrong is read; else its first wrong byte is answered. It is the record at the front.
@@ -35,8 +36,10 @@ module _ {B : Type 0} (form : Form B) where
     pub known : (m : Letter B) → Begins bs (parts_of m) → accepted × (read ≡ parts_of m)
     pub only : accepted → (m : Letter B) × (read ≡ parts_of m) × Begins bs (parts_of m)
 
-  -- what reading the record at the front of some bytes does: its answer, the parts that it leaves, and that it undoes writing
+  -- what reading the record at the front of some bytes does: its answer, the parts that it leaves, that it undoes writing, and
+  -- what it means that a byte is named
   pub record RecordRead (bs : List ℕ) (old new : Parts B) (r : Result (Unit {0}) Fault) : Type 0 where
     pub answer : told_fault r ≡ read_answer (wrong_front form bs)
     pub filled : new ≡ parts_left bs (wrong_front form bs) old
     pub undoes : Undoes bs (r ≡ Ok tt) new
+    pub named : (fault : Fault) → r ≡ Err fault → Named form bs fault.byte

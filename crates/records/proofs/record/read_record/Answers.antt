@@ -1,7 +1,8 @@
-use Rattle.std.proofs.Common.{ℕ, List, take, sym, ap, ◌∙◌, subst}
+use Rattle.std.proofs.Common.{◌≡◌, ℕ, List, length, take, Some, sym, refl, ap, ◌∙◌, subst, arith}
 use Rattle.records.specs.Reading.{LeftBy, read_answer}
-use Rattle.records.specs.Records.{record_size, wrong_byte}
-use Rattle.records.proofs.RoundTrip.{front_whole, left_exact, read_undoes}
+use Rattle.records.specs.Records.{record_size, wrong_byte, wrong_front}
+use Rattle.records.proofs.Naming.{read_named}
+use Rattle.records.proofs.RoundTrip.{front_short, front_whole, left_exact, read_undoes}
 use Rattle.records.proofs.record.read_record.Goals as goal
 
 pub returns-in-Some : goal.returns-in-Some
@@ -16,4 +17,25 @@ returns-in-Some g c =
     let left = subst (λ r. LeftBy form r old new (wrong_byte form r)) chunk.same c.read_whole.ensures.left in
     let exact = subst (LeftBy form (take record_size bs) old new) (sym (front_whole form laws bs chunk.enough)) left in
     let is = c.read_whole.ensures.answer ∙ ap read_answer whole in
-    record { answer = is; filled = left_exact form laws bs old new exact; undoes = read_undoes form laws bs old new exact _ is }
+    record {
+      answer = is;
+      filled = left_exact form laws bs old new exact;
+      undoes = read_undoes form laws bs old new exact _ is;
+      named = read_named form laws bs (λ i. omega (arith, c.type_inv.bytes i)) _ is;
+    }
+
+pub returns-in-None : goal.returns-in-None
+returns-in-None g c =
+    let form = g.B.Body.form in
+    let laws = g.met.B.Body.lawful in
+    let bs : List ℕ = c.args.bytes.now in
+    let front : wrong_front form bs ≡ Some (length bs) = front_short form laws bs c.in-None.ensures.cases in
+    let old = c.args.parts.now in
+    let exact = subst (LeftBy form (take record_size bs) old old) (sym front) refl in
+    let is = ap read_answer (sym front) in
+    record {
+      answer = is;
+      filled = left_exact form laws bs old old exact;
+      undoes = read_undoes form laws bs old old exact _ is;
+      named = read_named form laws bs (λ i. omega (arith, c.type_inv.bytes i)) _ is;
+    }

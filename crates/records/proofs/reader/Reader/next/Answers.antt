@@ -1,9 +1,10 @@
-use Rattle.std.proofs.Common.{ℕ, ◌*◌, ◌<◌, List, length, sym, refl, ap, ◌∙◌, arith}
+use Rattle.std.proofs.Common.{ℕ, ◌*◌, ◌<◌, List, length, sym, refl, ap, ◌∙◌, subst, arith}
 use Rattle.std.proofs.lemmas.List.{length-drop}
 use Rattle.records.specs.Reading.{parts_left, read_answer}
 use Rattle.records.specs.Readers.{ahead, next_answer, next_index, next_parts}
 use Rattle.records.specs.Records.{record_size, wrong_front}
-use Rattle.records.proofs.Finding.{found_right, found_wrong, next_part}
+use Rattle.records.specs.Naming.{Named}
+use Rattle.records.proofs.Finding.{found_right, found_wrong, named_byte, next_part, ok_err}
 use Rattle.records.proofs.RoundTrip.{undoes_as}
 use Rattle.records.proofs.reader.Reader.next.Goals as goal
 
@@ -26,6 +27,7 @@ returns-in-Err g c =
       lent = refl;
       filled = found.1 ∙ ap (next_parts form bs old) (sym found.0);
       undoes = undoes_as form g.met.B.Body.lawful _ bs new part (λ e. cc) (λ e. cc) told.undoes;
+      named = λ fault e. subst (λ l. Named form l fault.byte) part (subst (Named form _) (ap (λ r. named_byte r) e) (told.named c.in-Err.fault refl));
     }
 
 pub returns-in-Ok : goal.returns-in-Ok
@@ -47,4 +49,5 @@ returns-in-Ok g c =
       lent = refl;
       filled = found.1 ∙ ap (next_parts form bs old) (sym found.0);
       undoes = undoes_as form g.met.B.Body.lawful _ bs new part (λ e. refl) (λ e. refl) told.undoes;
+      named = λ fault e. absurd (ok_err _ fault e);
     }
