@@ -1,16 +1,17 @@
 -- Worked cases, as rows of one table: each asks a definition that a contract cites, and gives the answer.
 -- Stamps are written by their first three entries, and the others are 0.
-use Rattle.std.specs.Prelude.{◌≡◌, ℕ, ◌-◌, Bool, true, false, cond, not, ◌&&◌, T, List, [], ◌∷◌, replicate, Some, None, Ok, Err, Option, Result, ◌==◌, count_ones, nat_lt, refl}
+use Rattle.std.specs.Prelude.{◌≡◌, ℕ, zero, suc, ◌+◌, ◌-◌, Bool, true, false, cond, not, ◌&&◌, T, List, [], ◌∷◌, replicate, Ok, Err, Result, ◌==◌, count_ones, nat_lt, refl}
 use Rattle.std.proofs.Common.{lit<}
 use Rattle.letters.specs.declared.job.Job.{Job}
 use Rattle.letters.specs.declared.job.Job.TheVariants.{Add, Strike}
 use Rattle.letters.specs.declared.letter.Letter.{Letter}
 use Rattle.letters.specs.declared.stamp.Stamp.{Stamp}
 use Rattle.letters.specs.Letters.{entry_at}
-use Rattle.letters.specs.Order.{covers, each_below, ready, side_by_side}
+use Rattle.letters.specs.Order.{covers, ready, side_by_side}
 use Rattle.letters.specs.Refusals.{Reason}
-use Rattle.rooms.specs.Drafts.{DraftState, enrol_check}
-use Rattle.sheets.specs.JobLists.{code_in, job_does, open_job}
+use Rattle.rooms.specs.Drafts.{DraftState, drafted, enrol_answer, enrol_check, enrolled}
+use Rattle.sheets.specs.declared.open_job.OpenJob.{OpenJob}
+use Rattle.sheets.specs.JobLists.{job_does, open_job}
 use Rattle.sheets.specs.Pages.{page_count}
 use Rattle.spool.specs.Masks.{all_but}
 use Rattle.spool.specs.Rows.{row_fits, spool_answer}
@@ -28,6 +29,10 @@ some_job = Add 7
 abbrev first_struck : Job
 first_struck = Strike (record { poster = 0; number = 1; seated = lit< tt; counted = lit< tt })
 
+-- the jobs of letters 0.1 and 2.1
+abbrev two_jobs : List OpenJob
+two_jobs = open_job 0 1 7 ∷ open_job 2 1 8 ∷ []
+
 -- a question, with the answer that it must have
 pub data Case : Type 0 where
   -- is the letter ready at seat 2 with this clock, in a room of three seats with the quota 4?
@@ -42,8 +47,8 @@ pub data Case : Type 0 where
   spool_refused : (bytes number : ℕ) → Case
   -- how many rows does a spool of so many bytes hold?
   spool_holds : (bytes rows : ℕ) → Case
-  -- job 0.1 is open with code 7: with which code after the letter?
-  leaves_job : (m : Letter Job) (code : Option ℕ) → Case
+  -- these jobs are open: which are after the letter?
+  leaves_jobs : (before : List OpenJob) (m : Letter Job) (after : List OpenJob) → Case
   -- with this quota, how many seats can be enrolled, one after the other, and with which number is the next refused?
   takes_seats : (quota seats number : ℕ) → Case
   -- how many pages do so many rows take?
@@ -57,19 +62,19 @@ abbrev no_number : {X : Type 0} → Result X Reason → ℕ
 no_number (Ok x) = 0
 no_number (Err why) = why.number
 
--- a draft in which so many seats are enrolled, none of them under the name 1
+-- what a draft of the quota holds after so many enrolments, one after the other, under the names 1, 2, 3 and so on
 abbrev drafted_so_far : ℕ → ℕ → DraftState
-drafted_so_far quota seats = record { number = 0; quota = quota; names = replicate 16 2; count = seats }
+drafted_so_far quota zero = drafted 0 quota
+drafted_so_far quota (suc n) = let d = drafted_so_far quota n in enrolled d (enrol_answer d (n + 1)) (n + 1)
 
--- the seat after so many others can be enrolled
-abbrev enrols : ℕ → ℕ → Bool
-enrols quota seats = no_number (enrol_check (drafted_so_far quota seats) 1) == 0
+abbrev same_job : OpenJob → OpenJob → Bool
+same_job j k = j.poster == k.poster && j.number == k.number && j.code == k.code
 
-abbrev same_code : Option ℕ → Option ℕ → Bool
-same_code None None = true
-same_code None (Some b) = false
-same_code (Some a) None = false
-same_code (Some a) (Some b) = a == b
+abbrev same_jobs : List OpenJob → List OpenJob → Bool
+same_jobs [] [] = true
+same_jobs [] (k ∷ ks) = false
+same_jobs (j ∷ js) [] = false
+same_jobs (j ∷ js) (k ∷ ks) = same_job j k && same_jobs js ks
 
 abbrev holds : Case → Bool
 holds (is_ready clock m answer) = agree (ready 3 4 2 clock m) answer
@@ -78,8 +83,9 @@ holds (does_cover m p n answer) = agree (covers m.stamp p n) answer
 holds (begins_with seats poster mask draws) = all_but seats poster == mask && count_ones mask == draws
 holds (spool_refused bytes number) = no_number (spool_answer 5 bytes) == number
 holds (spool_holds bytes rows) = row_fits (rows - 1) bytes && not (row_fits rows bytes)
-holds (leaves_job m code) = same_code (code_in (job_does m.body m (open_job 0 1 7 ∷ [])) 0 1) code
-holds (takes_seats quota seats number) = each_below (enrols quota) seats && no_number (enrol_check (drafted_so_far quota seats) 1) == number
+holds (leaves_jobs before m after) = same_jobs (job_does m.body m before) after
+holds (takes_seats quota seats number) =
+    (drafted_so_far quota seats).count == seats && no_number (enrol_check (drafted_so_far quota seats) (seats + 1)) == number
 holds (takes_pages rows pages) = page_count rows == pages
 
 abbrev pub cases : List Case
@@ -95,8 +101,8 @@ cases =
     ∷ spool_refused 98 0
     ∷ spool_holds 195 1
     ∷ spool_holds 196 2
-    ∷ leaves_job (letter3 first_struck 1 0 1 0 tt tt) (Some 7)
-    ∷ leaves_job (letter3 first_struck 1 1 1 0 tt tt) None
+    ∷ leaves_jobs two_jobs (letter3 first_struck 1 0 1 0 tt tt) two_jobs
+    ∷ leaves_jobs two_jobs (letter3 first_struck 1 1 1 0 tt tt) (open_job 2 1 8 ∷ [])
     ∷ takes_seats 16 16 3
     ∷ takes_seats 17 15 3
     ∷ takes_pages 0 0
