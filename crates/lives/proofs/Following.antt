@@ -1,19 +1,17 @@
 -- What the calls and their callers may draw from the definitions and from the theorem.
-use Rattle.std.proofs.Common.{◌≡◌, ℕ, ◌-◌, ◌*◌, ◌^◌, ◌<◌, ◌≤◌, min, List, [], ◌∷◌, length, None, Ok, refl, ⊎_elim, arith}
-use Rattle.std.proofs.lemmas.Bool.{cases_lt, le-leb}
+use Rattle.std.proofs.Common.{◌≡◌, ℕ, ◌-◌, ◌^◌, ◌<◌, min, List, [], ◌∷◌, length, None, refl, ⊎_elim, arith}
+use Rattle.std.proofs.lemmas.Bool.{cases_lt}
 use Rattle.letters.specs.declared.letter.Letter.{Letter}
 use Rattle.letters.specs.Order.{Ready, ready}
 use Rattle.carriers.specs.Meaning.{Empty, Lawful, Meaning, waits_at}
 use Rattle.letters.specs.Lists.{◌∈◌}
-use Rattle.sheets.specs.Sheets.{Kind, draw_up_outcome, drawn_up}
 use Rattle.seats.specs.Outcomes.{first_ready}
 use Rattle.seats.specs.Rooms.{RoomState, hold_of, seat_at}
 use Rattle.seats.specs.Seats.{clock_at}
 use Rattle.seats.specs.declared.slip.Slip.{Slip}
 use Rattle.lives.specs.declared.moves.Move.{Move}
-use Rattle.lives.specs.Traces.{Answer, Trace}
+use Rattle.lives.specs.Traces.{Answer}
 use Rattle.lives.specs.Worked.{Moment, Opened, Step, Worked, WorksOn, further, nowhere}
-use Rattle.lives.specs.Keeps.{Keeps, SameLetters, Settled, log_at}
 use Rattle.lives.proofs.Showing.{not_ready}
 use Rattle.lives.proofs.Splits.{none_passes}
 
@@ -37,25 +35,3 @@ none_long (x ∷ l) e = absurd (omega arith)
 -- where no letter waits at a seat that the carrier serves, nothing waits for anybody
 pub nothing_waits : {L : Type 0} (c : Meaning L) → Lawful c → ((k : ℕ) → k < c.seats → waits_at c k ≡ 0) → Empty c
 nothing_waits c laws quiet k = ⊎_elim (λ lt. none_long (c.waiting k) (quiet k lt)) (λ ge. laws.no_waiting k ge) (cases_lt k c.seats)
-
-module _ {M B : Type 0} (kind : Kind M B) (trace : Trace B) (w : Moment B) (kept : Keeps kind trace w) (s t : ℕ) (ls : s < w.room.count) (lt : t < w.room.count) where
-  accepted : (u : ℕ) → u < w.room.count → w.room.count * w.room.quota ≤ kind.places → draw_up_outcome kind (log_at w u) ≡ Ok (drawn_up kind (log_at w u))
-  accepted u lu wide =
-      let short = kept.short u lu in
-      let enough = le-leb (length (log_at w u)) kind.places (omega arith) in
-      rw enough
-
-  -- on a sheet that has places for any log of the room, two logs of the same letters come to the same
-  pub drawn_alike : w.room.count * w.room.quota ≤ kind.places → SameLetters (log_at w s) (log_at w t) → drawn_up kind (log_at w s) ≡ drawn_up kind (log_at w t)
-  drawn_alike wide same = kept.sheets s t ls lt same _ _ (accepted s ls wide) (accepted t lt wide)
-
-  -- two seats that are settled hold the same letters
-  pub settled_alike : Settled w s → Settled w t → SameLetters (log_at w s) (log_at w t)
-  settled_alike here there = record {
-    into = λ m i.
-        let c = ((kept.complete t lt there).log _ _).1 (kept.genuine s ls m i).made in
-        record { letter = c.letter; inside = c.inside; called = c.called };
-    back = λ m i.
-        let c = ((kept.complete s ls here).log _ _).1 (kept.genuine t lt m i).made in
-        record { letter = c.letter; inside = c.inside; called = c.called };
-  }

@@ -1,26 +1,30 @@
 -- What is kept of a room that was worked.
-use Rattle.std.proofs.Common.{◌≡◌, ℕ, ◌*◌, ◌<◌, ◌≤◌, Bool, true, false, ◌↔◌, List, [], ◌∷◌, ◌++◌, map, length, take, drop, sym, refl, ap, ◌∙◌, subst, inl, inr, append-nil, arith, take-append-drop}
+use Rattle.std.proofs.Common.{◌≡◌, ℕ, ◌*◌, ◌<◌, ◌≤◌, Bool, true, false, ◌↔◌, List, [], ◌∷◌, ◌++◌, map, length, take, drop, nat_le, Ok, Err, Result, sym, refl, ap, ◌∙◌, subst, inl, inr, append-nil, arith, take-append-drop}
+use Rattle.std.proofs.lemmas.Bool.{le-leb, leb-true}
 use Rattle.letters.specs.declared.letter.Letter.{Letter}
 use Rattle.letters.specs.Letters.{letter_name}
 use Rattle.letters.specs.Names.{Name}
 use Rattle.letters.specs.Order.{CoversLetter, Ready, SameLetter}
+use Rattle.letters.specs.Refusals.{Reason, unless}
 use Rattle.causality.specs.declared.docket.DocketState.TheVariants.{Clear}
 use Rattle.causality.specs.History.{Event, History, LedTo, Seen, posted, posted_letters, seen_at, shown, told}
 use Rattle.letters.specs.Lists.{◌∈◌, here, there}
 use Rattle.causality.specs.Theorems as theorems
+use Rattle.causality.specs.Logs.{Stands}
 use Rattle.causality.specs.Steps.{Stray}
 use Rattle.causality.specs.Worlds.{Box}
 use Rattle.causality.proofs.Lists.{in_as, in_eq, in_none}
 use Rattle.causality.proofs.Named.{seen_told}
 use Rattle.causality.proofs.Turns.{told_in_turn}
 use Rattle.causality.proofs.Theorems.{causal_order, complete_delivery, enough_places, order_for_sheets, stamps_mean_led_to}
-use Rattle.sheets.specs.Sheets.{Kind, Lawful}
-use Rattle.seats.specs.Outcomes.{is_stray}
+use Rattle.sheets.specs.Sheets.{Kind, Lawful, draw_up_outcome, drawn_up}
+use Rattle.seats.specs.Outcomes.{follows, is_stray, seat_check}
 use Rattle.seats.specs.Rooms.{RoomState, seat_at, start}
 use Rattle.seats.specs.Seats.{log_length}
 use Rattle.lives.specs.Traces.{Posting, Trace, events, posting, postings}
 use Rattle.lives.specs.Worked.{Moment}
-use Rattle.lives.specs.Keeps.{Agree, AlwaysKeeps, Complete, Genuine, InOrder, Keeps, Settled, hold_at, log_at}
+use Rattle.lives.specs.Drawing.{sheet_outcome}
+use Rattle.lives.specs.Keeps.{Agree, AlwaysKeeps, Complete, DrawnAlike, Genuine, InOrder, Keeps, SameLetters, Settled, hold_at, log_at}
 use Rattle.lives.proofs.Agreeing.{agree, same_named}
 use Rattle.seats.proofs.Clocks.{log_fits, row_end}
 use Rattle.lives.proofs.Cut.{cut_in, cut_one}
@@ -45,6 +49,15 @@ module _ {X Y : Type 0} (f : X → Y) where
   of_map y [] i = absurd (in_none i)
   of_map y (x ∷ l) (here e) = record { one = x; inside = here refl; is = e }
   of_map y (x ∷ l) (there i) = let r = of_map y l i in record { one = r.one; inside = there r.inside; is = r.is }
+
+-- a yes that comes after a check, and the yes of a check of places
+followed : {X : Type 0} (check : Result (Unit {0}) Reason) (r : Result X Reason) (x : X) → follows check r ≡ Ok x → r ≡ Ok x
+followed (Ok done) r x e = e
+followed (Err why) r x e = let z : ◌≡◌ {A = ℕ} 0 1 = cc in absurd (omega arith)
+
+drew_up : {X : Type 0} (enough : Bool) (drawn x : X) → unless enough 17 (Ok drawn) ≡ Ok x → (enough ≡ true) × (x ≡ drawn)
+drew_up true drawn x e = (refl, cc)
+drew_up false drawn x e = let z : ◌≡◌ {A = ℕ} 0 1 = cc in absurd (omega arith)
 
 -- a letter that was posted is among the posted letters
 abbrev letter_of : {L : Type 0} → Event L → L
@@ -213,6 +226,15 @@ module _ {B : Type 0} (trace : Trace B) (w : Moment B) (life : Lives trace w) wh
       let size = length_part w.logs (start st s) (log_length (seat_at st s)) (omega (arith, life.logs, row_end st life.fit s (log_length (seat_at st s)) lt most)) in
       omega arith
 
+  -- where one seat is settled, the letters of the other's log stand in its own
+  settled_into : (s t : ℕ) → s < N → t < N → Settled w t → (m : Letter B) → m ∈ log_at w s → Stands (letter_name m) (log_at w t)
+  settled_into s t ls lt still m i =
+      let c = ((delivery_kept t lt still).log _ _).1 (genuine_kept s ls m i).made in
+      record { letter = c.letter; inside = c.inside; called = c.called }
+
+  settled_kept : (s t : ℕ) → s < N → t < N → Settled w s → Settled w t → SameLetters (log_at w s) (log_at w t)
+  settled_kept s t ls lt one other = record { into = settled_into s t ls lt other; back = settled_into t s lt ls one }
+
   module _ {M : Type 0} (kind : Kind M B) (laws : Lawful kind) (s t : ℕ) (ls : s < N) (lt : t < N) where
     -- lists that two logs begin with
     begun : (a a' b b' : List (Letter B)) → log_at w s ≡ a ++ a' → log_at w t ≡ b ++ b' → Agree kind a b
@@ -220,6 +242,17 @@ module _ {B : Type 0} (trace : Trace B) (w : Moment B) (life : Lives trace w) wh
 
     sheets_kept : Agree kind (log_at w s) (log_at w t)
     sheets_kept = begun (log_at w s) [] (log_at w t) [] (sym (append-nil (log_at w s))) (sym (append-nil (log_at w t)))
+
+    -- a log goes up on a sheet that has places for any log of the room
+    goes_up : (u : ℕ) → u < N → (m : M) → sheet_outcome kind st w.logs (length w.holds) u ≡ Ok m → draw_up_outcome kind (log_at w u) ≡ Ok m
+    goes_up u lu m e =
+        let drew = drew_up (nat_le (N * Q) kind.places) (drawn_up kind (log_at w u)) m (followed (seat_check st (length w.logs) (length w.holds) u) _ m e) in
+        let wide = leb-true (N * Q) kind.places drew.0 in
+        let enough = le-leb (length (log_at w u)) kind.places (omega (arith, short_kept u lu)) in
+        rw enough (ap Ok (sym drew.1))
+
+    drawn_kept : DrawnAlike kind w s t
+    drawn_kept same m m' e e' = sheets_kept same m m' (goes_up s ls m e) (goes_up t lt m' e')
 
     beginnings_kept : (i j : ℕ) → Agree kind (take i (log_at w s)) (take j (log_at w t))
     beginnings_kept i j = begun (take i (log_at w s)) (drop i (log_at w s)) (take j (log_at w t)) (drop j (log_at w t))
@@ -232,6 +265,8 @@ module _ {B : Type 0} (trace : Trace B) (w : Moment B) (life : Lives trace w) wh
     named = named_kept;
     alike = alike_kept;
     complete = delivery_kept;
+    settled = settled_kept;
+    drawn = drawn_kept kind laws;
     sheets = sheets_kept kind laws;
     beginnings = beginnings_kept kind laws;
     stamps = stamps_kept;

@@ -13,6 +13,7 @@ use Rattle.sheets.specs.Sheets.{Kind, draw_up_outcome}
 use Rattle.seats.specs.Outcomes.{is_stray}
 use Rattle.seats.specs.Rooms.{hold_of, log_of, seat_at}
 use Rattle.seats.specs.Seats.{clock_at}
+use Rattle.lives.specs.Drawing.{sheet_outcome}
 use Rattle.lives.specs.Traces.{Trace, events, posting, postings}
 use Rattle.lives.specs.Worked.{Leads, Moment, Worked}
 
@@ -69,6 +70,12 @@ module _ {M B : Type 0} (kind : Kind M B) where
   abbrev pub Agree : List (Letter B) → List (Letter B) → Type 0
   Agree l l' = SameLetters l l' → (m m' : M) → draw_up_outcome kind l ≡ Ok m → draw_up_outcome kind l' ≡ Ok m' → m ≡ m'
 
+  -- where the logs of the two seats hold the same letters, and the room draws up both, the two sheets have the same meaning
+  abbrev pub DrawnAlike : Moment B → ℕ → ℕ → Type 0
+  DrawnAlike w s t =
+      SameLetters (log_at w s) (log_at w t)
+      → (m m' : M) → sheet_outcome kind w.room w.logs (length w.holds) s ≡ Ok m → sheet_outcome kind w.room w.logs (length w.holds) t ≡ Ok m' → m ≡ m'
+
   -- What a room keeps that was worked by the steps of the trace.
   pub record Keeps (trace : Trace B) (w : Moment B) : Type 0 where
     -- causal order
@@ -80,7 +87,10 @@ module _ {M B : Type 0} (kind : Kind M B) where
         → letter_name m ≡ letter_name k → m ≡ k
     -- complete delivery
     pub complete : (s : ℕ) → s < w.room.count → Settled w s → Complete trace w s
-    -- convergence, of whole logs and of any beginnings of them
+    -- so two seats that are settled hold the same letters
+    pub settled : (s t : ℕ) → s < w.room.count → t < w.room.count → Settled w s → Settled w t → SameLetters (log_at w s) (log_at w t)
+    -- convergence, of what the room draws up, of whole logs, and of any beginnings of them
+    pub drawn : (s t : ℕ) → s < w.room.count → t < w.room.count → DrawnAlike w s t
     pub sheets : (s t : ℕ) → s < w.room.count → t < w.room.count → Agree (log_at w s) (log_at w t)
     pub beginnings : (s t : ℕ) → s < w.room.count → t < w.room.count → (i j : ℕ) → Agree (take i (log_at w s)) (take j (log_at w t))
     -- stamps tell happens-before: of two letters in logs, one led to the other exactly when the other covers it and is not the same

@@ -1,3 +1,4 @@
 pub mod Traces
 pub mod Worked
+pub mod Drawing
 pub mod Keeps

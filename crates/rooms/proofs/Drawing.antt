@@ -9,7 +9,7 @@ use Rattle.seats.specs.Outcomes.{follows, seat_check}
 use Rattle.seats.specs.Rooms.{RoomState, log_of, seat_at, start}
 use Rattle.seats.specs.Seats.{log_length}
 use Rattle.seats.proofs.Clocks.{log_fits}
-use Rattle.rooms.specs.Drawing.{places_check, sheet_outcome}
+use Rattle.lives.specs.Drawing.{places_check, sheet_outcome}
 
 -- a seat's log goes up on a sheet that has places for any log of the room
 module _ {M B : Type 0} (kind : Kind M B) (st : RoomState) (ok : Sound st) (logs : List (Letter B)) (holds s : ℕ) (log : List (Letter B))

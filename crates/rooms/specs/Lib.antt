@@ -4,6 +4,5 @@ pub mod Serving
 pub mod Reading
 pub mod Drafts
 pub mod Running
-pub mod Drawing
 pub mod Asked
 pub mod Handing

@@ -3,7 +3,8 @@ ghost use Rattle.std.specs.Prelude.{◌≡◌, length};
 ghost use Rattle.letters.specs.Refusals.{told};
 ghost use Rattle.carriers.specs.Meaning.{Kept};
 ghost use Rattle.sheets.specs.Sheets.{answered, left_by};
-ghost use Rattle.rooms.specs.Drawing.{sheet_outcome};
+ghost use Rattle.lives.specs.Drawing.{sheet_outcome};
+ghost use Rattle.lives.specs.Keeps.{AlwaysKeeps};
 ghost use Rattle.rooms.specs.Reading.{closed_state, log_answer, pages_answer};
 
 use crate::closed::ClosedRoom;
@@ -44,6 +45,7 @@ impl ClosedRoom {
         ensures answer { told (λ u. u) result ≡ answered (sheet_outcome K.Sheet.kind (closed_state self.now) logs.now (length holds.now) seat) }
         ensures leaves { K.Sheet.meaning sheet.new ≡ left_by (sheet_outcome K.Sheet.kind (closed_state self.now) logs.now (length holds.now) seat) (K.Sheet.meaning sheet.old) }
         ensures untouched { Kept result sheet.old sheet.new }
+        ensures keeps { AlwaysKeeps K.Sheet.kind }
     {
         self.room.draw_up(logs, holds, seat, sheet)
     }

@@ -3,8 +3,8 @@ ghost use Rattle.std.specs.Prelude.{◌≡◌, length};
 ghost use Rattle.letters.specs.Refusals.{told};
 ghost use Rattle.carriers.specs.Meaning.{Kept};
 ghost use Rattle.sheets.specs.Sheets.{answered, left_by};
+ghost use Rattle.lives.specs.Drawing.{sheet_outcome};
 ghost use Rattle.lives.specs.Keeps.{AlwaysKeeps};
-ghost use Rattle.rooms.specs.Drawing.{sheet_outcome};
 ghost use Rattle.rooms.specs.States.{state};
 
 use crate::room::Room;
