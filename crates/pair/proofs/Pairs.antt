@@ -5,9 +5,9 @@ use Rattle.std.specs.Result.{OnErr}
 use Rattle.std.proofs.lemmas.List.{get_or_append_left, get_or-append_right, map-append, length-map}
 use Rattle.std.proofs.lemmas.Bool.{eq-eqb, and_from, cases_lt}
 use Rattle.letters.specs.declared.refusal.Refusal.{Refusal}
-use Rattle.letters.specs.Refusals.{Reason, told}
+use Rattle.letters.specs.Refusals.{Reason, plain, told}
 use Rattle.carriers.specs.Meaning.{Meaning, PutOn, Drawn, waits_at, put_answer, PutLeaves, draw_answer, DrawLeaves}
-use Rattle.carriers.proofs.Decisions.{put_ok, draw_ok, draw_no_seat, draw_no_place, put_accepted, accepted_put, draw_accepted, accepted_draw}
+use Rattle.carriers.proofs.Decisions.{put_ok, draw_ok, draw_no_seat, draw_no_place, put_accepted, accepted_put, draw_accepted, accepted_draw, draw_refused, refused_draw}
 use Rattle.carriers.proofs.Gained.{gains_append}
 use Rattle.carriers.proofs.Removed.{removed_left, removed_right}
 use Rattle.pair.specs.Pairs.{DrawsOne, joined, both}
@@ -95,6 +95,23 @@ module _ {L : Type 0} where
       length-joined : length ((joined m n).waiting seat) ≡ length (m.waiting seat) + length (n.waiting seat)
       length-joined = length-append _ _
 
+      -- the pair refuses for the reason that one of the two has
+      refuses : (w : Reason) (m' n' : Meaning L) → told (λ u. u) r ≡ Err w → draw_answer (joined m n) seat place ≡ Err w → m' ≡ m → n' ≡ n → y ≡ x → Draws r (both m n) seat place (both m' n') x y
+      refuses w m' n' refused pair-refuses first second lent = (
+        refused ∙ sym (ap (λ v. draw_answer v seat place) (both_level m n _ refl (eq-eqb _ _ s)) ∙ pair-refuses),
+        refused_draw (both m n) (both m' n') see seat place x y r w refused (ap (λ v. both v n') first ∙ ap (both m) second, lent),
+      )
+
+      first_refuses : (w : Reason) (m' : Meaning L) → draw_answer m seat place ≡ Err w → draw_answer (joined m n) seat place ≡ Err w → Draws r m seat place m' x y → Draws r (both m n) seat place (both m' n) x y
+      first_refuses w m' refused pair-refuses d =
+          let left = draw_refused m m' see seat place x y r w (d.0 ∙ refused) d.1 in
+          refuses w m' n (d.0 ∙ refused) pair-refuses left.0 refl left.1
+
+      second_refuses : (w : Reason) (n' : Meaning L) (at : ℕ) → draw_answer n seat at ≡ Err w → draw_answer (joined m n) seat place ≡ Err w → Draws r n seat at n' x y → Draws r (both m n) seat place (both m n') x y
+      second_refuses w n' at refused pair-refuses d =
+          let left = draw_refused n n' see seat at x y r w (d.0 ∙ refused) d.1 in
+          refuses w m n' (d.0 ∙ refused) pair-refuses refl left.0 left.1
+
       -- the pair draws what one of the two draws
       draws : (m' n' : Meaning L) → told (λ u. u) r ≡ Ok tt → seat < m.seats → place < waits_at (joined m n) seat → m'.seats ≡ n'.seats →
           Drawn (joined m n) seat place (joined m' n') → y ≡ get_or (map see ((joined m n).waiting seat)) place x → Draws r (both m n) seat place (both m' n') x y
@@ -105,8 +122,9 @@ module _ {L : Type 0} where
       seen = map-append see (m.waiting seat) (n.waiting seat)
 
       -- a draw at a place of the first
-      pub draw_first : (m' : Meaning L) → seat < m.seats → place < waits_at m seat → Draws r m seat place m' x y → Draws r (both m n) seat place (both m' n) x y
-      draw_first m' in-range h d =
+      pub draw_first : (m' : Meaning L) → place < waits_at m seat → Draws r m seat place m' x y → Draws r (both m n) seat place (both m' n) x y
+      draw_first m' h d = ⊎_elim
+          (λ in-range.
           let len = length-joined in
           let near : place < length (m.waiting seat) = omega arith in
           let mapped = length-map (m.waiting seat) see in
@@ -118,17 +136,29 @@ module _ {L : Type 0} where
             own = ap (λ l. l ++ n.waiting seat) left.0.own ∙ sym (removed_left (m.waiting seat) (n.waiting seat) place near);
             others = λ k ne. ap (λ l. l ++ n.waiting k) (left.0.others k ne);
           })
-          (left.1 ∙ sym (ap (λ l. get_or l place x) seen ∙ get_or_append_left (map see (m.waiting seat)) (map see (n.waiting seat)) x place (omega arith)))
+          (left.1 ∙ sym (ap (λ l. get_or l place x) seen ∙ get_or_append_left (map see (m.waiting seat)) (map see (n.waiting seat)) x place (omega arith))))
+          (λ out. first_refuses (plain 8) m' (draw_no_seat m seat place out) (draw_no_seat (joined m n) seat place out) d)
+          (cases_lt seat m.seats)
+
+      -- a place that refused list has
+      pub draw_past : (m' : Meaning L) → 2 ^ 32 - 1 ≤ place → Draws r m seat place m' x y → Draws r (both m n) seat place (both m' n) x y
+      draw_past m' h d = ⊎_elim
+          (λ in-range. first_refuses (plain 14) m' (draw_no_place m seat place in-range (omega arith)) (draw_no_place (joined m n) seat place in-range (omega arith)) d)
+          (λ out. first_refuses (plain 8) m' (draw_no_seat m seat place out) (draw_no_seat (joined m n) seat place out) d)
+          (cases_lt seat m.seats)
 
       -- a draw at a place of the second
-      pub draw_second : (n' : Meaning L) (ahead : ℕ) → seat < m.seats → ahead ≡ waits_at m seat → ahead ≤ place → place < 2 ^ 32 - 1 → place - ahead < waits_at n seat
-          → Draws r n seat (place - ahead) n' x y → Draws r (both m n) seat place (both m n') x y
-      draw_second n' ahead in-range e h low near d =
+      pub draw_second : (n' : Meaning L) (ahead : ℕ) → ahead ≡ waits_at m seat → ahead ≤ place → place < 2 ^ 32 - 1 → Draws r n seat (place - ahead) n' x y → Draws r (both m n) seat place (both m n') x y
+      draw_second n' ahead e h low d = ⊎_elim
+          (λ in-range.
+          let in_range' : seat < n.seats = omega arith in
           let len = length-joined in
           let all : ahead ≡ length (m.waiting seat) = omega arith in
           let mapped : length (map see (m.waiting seat)) ≡ ahead = length-map (m.waiting seat) see ∙ sym all in
           let there : place ≡ length (m.waiting seat) + (place - ahead) = omega arith in
-          let said = d.0 ∙ draw_ok n seat (place - ahead) (omega arith) near in
+          ⊎_elim
+          (λ near.
+          let said = d.0 ∙ draw_ok n seat (place - ahead) in_range' near in
           let left = draw_accepted n n' see seat (place - ahead) x y r said d.1 in
           draws m n' said in-range (omega arith) (s ∙ sym left.0.seats)
           (record {
@@ -136,4 +166,8 @@ module _ {L : Type 0} where
             own = ap (λ l. m.waiting seat ++ l) left.0.own ∙ sym (ap (remove (m.waiting seat ++ n.waiting seat)) there ∙ removed_right (m.waiting seat) (n.waiting seat) (place - ahead));
             others = λ k ne. ap (λ l. m.waiting k ++ l) (left.0.others k ne);
           })
-          (left.1 ∙ sym (ap (λ l. get_or l place x) seen ∙ get_or-append_right (map see (m.waiting seat)) (map see (n.waiting seat)) ahead place x mapped h))
+          (left.1 ∙ sym (ap (λ l. get_or l place x) seen ∙ get_or-append_right (map see (m.waiting seat)) (map see (n.waiting seat)) ahead place x mapped h)))
+          (λ far. second_refuses (plain 14) n' (place - ahead) (draw_no_place n seat (place - ahead) in_range' far) (draw_no_place (joined m n) seat place in-range (omega arith)) d)
+          (cases_lt (place - ahead) (waits_at n seat)))
+          (λ out. second_refuses (plain 8) n' (place - ahead) (draw_no_seat n seat (place - ahead) (omega arith)) (draw_no_seat (joined m n) seat place out) d)
+          (cases_lt seat m.seats)

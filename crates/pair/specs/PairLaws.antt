@@ -1,9 +1,9 @@
 -- A pair of lawful carriers is lawful.
 use Rattle.std.specs.Prelude.{◌≡◌, ℕ, Bool, true, false, cond, List, [], ◌∷◌, ◌++◌, ◌==◌, refl}
-use Rattle.std.proofs.Common.{sym, subst, ◌∙◌, ⊎_elim, arith}
+use Rattle.std.proofs.Common.{sym, ap, subst, ◌∙◌, ⊎_elim, arith}
 use Rattle.std.proofs.lemmas.Bool.{eqb-true, and_left, and_from, cond-true, cases_Bool}
 use Rattle.carriers.specs.Meaning.{Meaning, Lawful}
-use Rattle.pair.specs.Pairs.{joined, both}
+use Rattle.pair.specs.Pairs.{Rested, joined, both}
 
 module _ {L : Type 0} where
   nil_left : (xs ys : List L) → xs ++ ys ≡ [] → xs ≡ []
@@ -45,3 +45,12 @@ module _ {L : Type 0} where
       (λ t. subst Lawful (sym (both_level m n _ refl t)) (lawful_joined m n (eqb-true _ _ t) a b))
       (λ f. subst Lawful (sym (both_alone m n _ refl f)) a)
       (cases_Bool (m.seats == n.seats))
+
+-- a no leaves what a pair means, since it leaves what each of the two means
+module _ {C D L : Type 0} (mean : C → Meaning L) (mean' : D → Meaning L) (rests : C → C → Type 0) (rests' : D → D → Type 0)
+    (still : (c after : C) → rests c after → mean after ≡ mean c) (still' : (d after : D) → rests' d after → mean' after ≡ mean' d) where
+  pub still_both : (c c' : C) (d d' : D) → Rested rests c c' → Rested rests' d d' → both (mean c') (mean' d') ≡ both (mean c) (mean' d)
+  still_both c c' d d' one two =
+      let first : mean c' ≡ mean c = ⊎_elim (λ same. ap mean same) (still c c') one in
+      let second : mean' d' ≡ mean' d = ⊎_elim (λ same. ap mean' same) (still' d d') two in
+      λ i. both (first i) (second i)

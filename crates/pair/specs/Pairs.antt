@@ -19,6 +19,10 @@ joined m n = record {
 abbrev pub both : {L : Type 0} → Meaning L → Meaning L → Meaning L
 both m n = cond (m.seats == n.seats) (joined m n) m
 
+-- what a no of the pair leaves of one of the two: it is as it was, or as a no of its own leaves it, of which `rests` tells
+abbrev pub Rested : {C : Type 0} → (C → C → Type 0) → C → C → Type 0
+Rested rests c after = (after ≡ c) ⊎ rests c after
+
 module _ {L : Type 0} where
   -- the place is the first's, which was drawn from; or it is behind those, and the second was. The other is as it was.
   abbrev pub DrawnFrom : Meaning L → Meaning L → ℕ → ℕ → Meaning L → Meaning L → Type 0

@@ -6,9 +6,8 @@ ghost use Rattle.std.specs.Result.{OnErr};
 ghost use Rattle.letters.specs.Refusals.{told};
 ghost use Rattle.letters.specs.Letters.{parts_of};
 ghost use Rattle.carriers.specs.Meaning.{DrawLeaves, PutLeaves, draw_answer, put_answer};
-ghost use Rattle.carriers.specs.Resting.{as_it_was};
-ghost use Rattle.pair.specs.PairLaws.{lawful_both};
-ghost use Rattle.pair.specs.Pairs.{DrawsOne, both, pair_answer};
+ghost use Rattle.pair.specs.PairLaws.{lawful_both, still_both};
+ghost use Rattle.pair.specs.Pairs.{DrawsOne, Rested, both, pair_answer};
 
 use carriers::carrier::Carrier;
 use letters::letter::Letter;
@@ -60,18 +59,17 @@ impl<C: Carrier, D: Carrier<Body = C::Body>> Carrier for Pair<C, D> {
 
     ghost puts = { λ p m after. C.Carrier.puts p.first m after.first × D.Carrier.puts p.second m after.second };
 
-    ghost rests = { λ p after. after ≡ p };
+    ghost rests = { λ p after. Rested C.Carrier.rests p.first after.first × Rested D.Carrier.rests p.second after.second × (after.seats ≡ p.seats) };
 
-    ghost still = { as_it_was (λ p. both (C.Carrier.meaning p.first) (D.Carrier.meaning p.second)) };
+    ghost still = { λ p after rest. still_both C.Carrier.meaning D.Carrier.meaning C.Carrier.rests D.Carrier.rests C.Carrier.still D.Carrier.still p.first after.first p.second after.second rest.0 rest.1 };
 
     fn seats(&self) -> u8 {
         self.seats
     }
 
     fn waits(&self, seat: u8) -> u32 {
-        self.first
-            .waits(seat)
-            .saturating_add(self.second.waits(seat))
+        let ahead = self.first.waits(seat);
+        ahead.saturating_add(self.second.waits(seat))
     }
 
     fn fits(&self, poster: u8) -> bool {
@@ -84,7 +82,7 @@ impl<C: Carrier, D: Carrier<Body = C::Body>> Carrier for Pair<C, D> {
         ensures once { OnOk result (C.Carrier.puts self.old.first letter.now self.new.first × D.Carrier.puts self.old.second letter.now self.new.second) }
         ensures first { PutLeaves result (C.Carrier.meaning self.old.first) letter.now.poster letter.now (C.Carrier.meaning self.new.first) }
         ensures second { PutLeaves result (D.Carrier.meaning self.old.second) letter.now.poster letter.now (D.Carrier.meaning self.new.second) }
-        ensures rests { OnErr result (self.new ≡ self.old) }
+        ensures rests { OnErr result (Rested C.Carrier.rests self.old.first self.new.first × Rested D.Carrier.rests self.old.second self.new.second × (self.new.seats ≡ self.old.seats)) }
     {
         let poster = letter.poster();
         if poster >= self.seats {
@@ -101,18 +99,12 @@ impl<C: Carrier, D: Carrier<Body = C::Body>> Carrier for Pair<C, D> {
         ensures answer { told (λ u. u) result ≡ draw_answer (both (C.Carrier.meaning self.old.first) (D.Carrier.meaning self.old.second)) seat place }
         ensures leaves { DrawLeaves parts_of result (both (C.Carrier.meaning self.old.first) (D.Carrier.meaning self.old.second)) seat place (both (C.Carrier.meaning self.new.first) (D.Carrier.meaning self.new.second)) parts.old parts.new }
         ensures one { DrawsOne result (C.Carrier.meaning self.old.first) (D.Carrier.meaning self.old.second) seat place (C.Carrier.meaning self.new.first) (D.Carrier.meaning self.new.second) }
-        ensures rests { OnErr result (self.new ≡ self.old) }
+        ensures rests { OnErr result (Rested C.Carrier.rests self.old.first self.new.first × Rested D.Carrier.rests self.old.second self.new.second × (self.new.seats ≡ self.old.seats)) }
     {
-        if seat >= self.seats {
-            return Err(Refusal::UnknownSeat);
-        }
         let ahead = self.first.waits(seat);
-        if place < ahead {
+        // A place of 2^32 - 1 is below no answer of `waits`, so the first refuses it for both.
+        if place < ahead || place == u32::MAX {
             return self.first.draw(seat, place, parts);
-        }
-        // Neither of the two is asked to draw what it would refuse, so a no here leaves all of both.
-        if place >= ahead.saturating_add(self.second.waits(seat)) {
-            return Err(Refusal::UnknownPlace);
         }
         self.second.draw(seat, place - ahead, parts)
     }

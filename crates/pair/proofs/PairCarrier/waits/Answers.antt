@@ -7,4 +7,4 @@ returns g c =
     let m = g.C.Carrier.meaning c.args.self.now.first in
     let n = g.D.Carrier.meaning c.args.self.now.second in
     let level = c.args.self.now.level in
-    c.saturating_add.ensures ∙ waits_joined m n c.args.seat _ _ level c.waits.ensures c.waits-2.ensures
+    c.saturating_add.ensures ∙ waits_joined m n c.args.seat _ _ level c.waits-ahead.ensures c.waits.ensures
