@@ -1,10 +1,7 @@
 -- The bytes that a text may have.
 use Rattle.std.specs.Prelude.{ℕ, Bool, ◌&&◌, List, length, Option, nat_le}
+use Rattle.letters.specs.declared.text.TheConstants.{LONGEST_TEXT}
 use Rattle.letters.specs.Checks.{check, first_failing}
-
--- how many bytes the longest text has
-abbrev pub longest_text : ℕ
-longest_text = 60
 
 -- the characters from space to tilde
 abbrev pub printable : ℕ → Bool
@@ -12,4 +9,4 @@ printable c = nat_le 32 c && nat_le c 126
 
 -- the first byte at which a list is no text
 abbrev pub text_wrong : List ℕ → Option ℕ
-text_wrong bs = check (nat_le (length bs) longest_text) longest_text (first_failing printable 0 bs)
+text_wrong bs = check (nat_le (length bs) LONGEST_TEXT) LONGEST_TEXT (first_failing printable 0 bs)

@@ -4,9 +4,10 @@ use Rattle.std.specs.List.{position, position_from}
 use Rattle.std.specs.Option.{option_map}
 use Rattle.std.proofs.Common.{inl, inr, sym, ap, ◌∙◌, arith}
 use Rattle.std.proofs.lemmas.Iterator.Adapters.{position_from-zero}
-use Rattle.std.proofs.lemmas.List.{at_drop_more, at_drop_all}
+use Rattle.std.proofs.lemmas.List.{at_drop_more}
 use Rattle.letters.specs.Checks.{check, first_failing}
-use Rattle.letters.specs.Forms.{Near, body_space}
+use Rattle.letters.specs.declared.body.TheConstants.{BODY_SPACE}
+use Rattle.letters.specs.Forms.{Near}
 
 pub some_none : {X : Type 0} (place : ℕ) → Some place ≡ None → X
 some_none place e = let z : ◌≡◌ {A = ℕ} 0 1 = cc in absurd (omega arith)
@@ -21,7 +22,7 @@ pub failed : (test : Bool) (at : ℕ) (later : Option ℕ) (place : ℕ) → che
 failed true at later place e = inr (refl, e)
 failed false at later place e = inl (refl, cc)
 
-pub near_check : (test : Bool) (place : ℕ) (later : Option ℕ) → place ≤ body_space → Near later → Near (check test place later)
+pub near_check : (test : Bool) (place : ℕ) (later : Option ℕ) → place ≤ BODY_SPACE → Near later → Near (check test place later)
 near_check true place later h k = k
 near_check false place later h k = h
 
@@ -65,9 +66,6 @@ module _ (test : ℕ → Bool) where
       → first_failing test k (drop k bs) ≡ first_failing test (k + 1) (drop (k + 1) bs)
   passes_here bs k h e = at_drop_more (first_failing test k) bs k 0 h ∙ rw e
 
-  pub none_left : (bs : List ℕ) (k : ℕ) → length bs ≤ k → first_failing test k (drop k bs) ≡ None
-  none_left bs k h = at_drop_all (first_failing test k) bs k h
-
   -- the first that fails does, and those before it pass
   pub record Fails (start : ℕ) (bs : List ℕ) (place : ℕ) : Type 0 where
     pub at : ℕ
@@ -105,6 +103,6 @@ module _ (test : ℕ → Bool) where
       let later = none_fails (place + 1) bs (λ k h. each (suc k) (omega arith)) in
       rw here later
 
-  pub near_failing : (place : ℕ) (bs : List ℕ) → place + length bs ≤ body_space → Near (first_failing test place bs)
+  pub near_failing : (place : ℕ) (bs : List ℕ) → place + length bs ≤ BODY_SPACE → Near (first_failing test place bs)
   near_failing place [] h = tt
   near_failing place (b ∷ bs) h = near_check (test b) place _ (omega arith) (near_failing (place + 1) bs (omega arith))

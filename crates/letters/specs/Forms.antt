@@ -1,9 +1,6 @@
 -- How one kind of body stands in a record.
 use Rattle.std.specs.Prelude.{◌≡◌, ℕ, ◌<◌, ◌≤◌, Bool, true, List, length, Some, None, Option, slice_index}
-
--- how many bytes a record has for its body
-abbrev pub body_space : ℕ
-body_space = 60
+use Rattle.letters.specs.declared.body.TheConstants.{BODY_SPACE}
 
 -- What a type of bodies says of its bytes. A type may have bodies of several kinds: a kind is told by its byte.
 pub record Form (B : Type 0) : Type 0 where
@@ -26,7 +23,7 @@ pub record Form (B : Type 0) : Type 0 where
 -- a place in the bytes of a body, or just after them
 abbrev pub Near : Option ℕ → Type 0
 Near None = Unit {0}
-Near (Some place) = place ≤ body_space
+Near (Some place) = place ≤ BODY_SPACE
 
 -- What it means that the byte at a place is the first wrong one of n bytes of a kind. Bodies of the kind and length can agree
 -- with the bytes as far as they are looked at before the place, and none agrees so far and at what begins there as well.
@@ -59,5 +56,5 @@ pub record Lawful {B : Type 0} (form : Form B) : Type 0 where
   -- nothing begins behind one of its bytes
   pub starts_back : (kind n k : ℕ) → form.starts kind n k ≤ k
   -- what is wrong is wrong within the space
-  pub near : (kind : ℕ) (bs : List ℕ) → length bs ≤ body_space → Near (form.wrong kind bs)
-  pub short : (kind n : ℕ) → form.has_length kind n ≡ true → n ≤ body_space
+  pub near : (kind : ℕ) (bs : List ℕ) → length bs ≤ BODY_SPACE → Near (form.wrong kind bs)
+  pub short : (kind n : ℕ) → form.has_length kind n ≡ true → n ≤ BODY_SPACE

@@ -5,7 +5,8 @@ use Rattle.std.proofs.lemmas.Bool.{lt-ltb, ltb-true, ltb-false, eqb-true, eqb-fa
 use Rattle.letters.specs.declared.job.Job.{Job}
 use Rattle.letters.specs.declared.job.Job.TheVariants.{Add, Strike}
 use Rattle.letters.specs.declared.letter_id.LetterId.{LetterId}
-use Rattle.letters.specs.Forms.{FirstWrong, Lawful, Near, body_space}
+use Rattle.letters.specs.declared.body.TheConstants.{BODY_SPACE}
+use Rattle.letters.specs.Forms.{FirstWrong, Lawful, Near}
 use Rattle.letters.specs.Jobs.{add_wrong, job_bytes, job_form, job_of, job_starts, job_wrong, strike_of, strike_or_none, strike_wrong}
 use Rattle.letters.specs.Numbers.{bytes_of_16, bytes_of_32, number_16, number_32}
 use Rattle.letters.specs.ChecksLemmas.{failed, near_check, near_cond, passed, some_none}
@@ -42,7 +43,7 @@ job_length : (b : Job) → job_form.has_length 2 (length (job_bytes b)) ≡ true
 job_length (Add code) = refl
 job_length (Strike id) = refl
 
-job_short : (n : ℕ) → job_form.has_length 2 n ≡ true → n ≤ body_space
+job_short : (n : ℕ) → job_form.has_length 2 n ≡ true → n ≤ BODY_SPACE
 job_short n e = ⊎_elim (λ f. omega (arith, eqb-true n 4 f)) (λ f. omega (arith, eqb-true n 5 f)) (or_cases (n == 4) (n == 5) e)
 
 job_near : (bs : List ℕ) → Near (job_wrong bs)

@@ -7,7 +7,8 @@ use Rattle.std.proofs.Math.Nat.{ℕ_set}
 use Rattle.letters.specs.declared.letter_id.LetterId.{LetterId}
 use Rattle.letters.specs.declared.letter.Letter.{Letter}
 use Rattle.letters.specs.declared.text.Text.{Text}
-use Rattle.letters.specs.Characters.{longest_text, text_wrong}
+use Rattle.letters.specs.declared.text.TheConstants.{LONGEST_TEXT}
+use Rattle.letters.specs.Characters.{text_wrong}
 
 pub same_id : (a b : LetterId) → a.poster ≡ b.poster → a.number ≡ b.number → a ≡ b
 same_id a b p n = λ i. record {
@@ -31,8 +32,8 @@ pub same_text : (a b : Text) → a.chars ≡ b.chars → a.len ≡ b.len → a �
 same_text a b c l = λ i. record {
   chars = c i;
   len = l i;
-  sized = is_prop→PathP (λ j. length (c j) ≡ longest_text) (λ j. hlevel props) a.sized b.sized i;
-  short = is_prop→PathP (λ j. l j ≤ longest_text) (λ j. hlevel props) a.short b.short i;
+  sized = is_prop→PathP (λ j. length (c j) ≡ LONGEST_TEXT) (λ j. hlevel props) a.sized b.sized i;
+  short = is_prop→PathP (λ j. l j ≤ LONGEST_TEXT) (λ j. hlevel props) a.short b.short i;
   clean = is_prop→PathP (λ j. is_some (text_wrong (take (l j) (c j))) ≡ false) (λ j. hlevel props) a.clean b.clean i;
-  blank = is_prop→PathP (λ j. drop (l j) (c j) ≡ replicate (longest_text - l j) 0) (λ j. hlevel props) a.blank b.blank i;
+  blank = is_prop→PathP (λ j. drop (l j) (c j) ≡ replicate (LONGEST_TEXT - l j) 0) (λ j. hlevel props) a.blank b.blank i;
 }

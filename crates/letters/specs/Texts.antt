@@ -4,7 +4,8 @@ use Rattle.std.proofs.Common.{ap, ◌∙◌, arith}
 use Rattle.std.proofs.lemmas.List.{take_at, drop_at, length-append, length-replicate}
 use Rattle.std.proofs.lemmas.Bool.{leb-true, true≢false}
 use Rattle.letters.specs.declared.text.Text.{Text}
-use Rattle.letters.specs.Characters.{longest_text, text_wrong}
+use Rattle.letters.specs.declared.text.TheConstants.{LONGEST_TEXT}
+use Rattle.letters.specs.Characters.{text_wrong}
 use Rattle.letters.specs.Checks.{check}
 use Rattle.letters.specs.Forms.{Form}
 use Rattle.letters.specs.Numbers.{padded}
@@ -19,27 +20,27 @@ passed true place later e = refl
 passed false place later e = absurd (true≢false e)
 
 module _ (bs : List ℕ) (clean : is_some (text_wrong bs) ≡ false) where
-  pub short : length bs ≤ longest_text
-  short = leb-true (length bs) longest_text (passed (nat_le (length bs) longest_text) longest_text _ clean)
+  pub short : length bs ≤ LONGEST_TEXT
+  short = leb-true (length bs) LONGEST_TEXT (passed (nat_le (length bs) LONGEST_TEXT) LONGEST_TEXT _ clean)
 
-  pub front : take (length bs) (padded longest_text bs) ≡ bs
-  front = take_at bs (replicate (longest_text - length bs) 0) (length bs) refl
+  pub front : take (length bs) (padded LONGEST_TEXT bs) ≡ bs
+  front = take_at bs (replicate (LONGEST_TEXT - length bs) 0) (length bs) refl
 
-  pub long : length (padded longest_text bs) ≡ longest_text
+  pub long : length (padded LONGEST_TEXT bs) ≡ LONGEST_TEXT
   long =
-      let parts = length-append bs (replicate (longest_text - length bs) 0) in
-      let zeros = length-replicate {A = ℕ} (longest_text - length bs) 0 in
+      let parts = length-append bs (replicate (LONGEST_TEXT - length bs) 0) in
+      let zeros = length-replicate {A = ℕ} (LONGEST_TEXT - length bs) 0 in
       omega (arith, short)
 
   -- the text of bytes that are one's
   unfoldable pub text_made : Text
   text_made = record {
-    chars = padded longest_text bs;
+    chars = padded LONGEST_TEXT bs;
     len = length bs;
     sized = long;
     short = short;
     clean = ap (λ l. is_some (text_wrong l)) front ∙ clean;
-    blank = drop_at bs (replicate (longest_text - length bs) 0) (length bs) refl;
+    blank = drop_at bs (replicate (LONGEST_TEXT - length bs) 0) (length bs) refl;
   }
 
 unfoldable pub text_or_none : (bs : List ℕ) (spoilt : Bool) → is_some (text_wrong bs) ≡ spoilt → Text
@@ -56,7 +57,7 @@ text_form = record {
   kind = λ t. 1;
   bytes = text_bytes;
   has_kind = λ k. (k == 1);
-  has_length = λ k n. nat_le n longest_text;
+  has_length = λ k n. nat_le n LONGEST_TEXT;
   wrong = λ k bs. text_wrong bs;
   starts = λ k n place. place;
   body = λ k bs. text_of bs;

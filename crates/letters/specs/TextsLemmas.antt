@@ -4,7 +4,8 @@ use Rattle.std.proofs.Common.{ap, sym, ◌∙◌, arith}
 use Rattle.std.proofs.lemmas.List.{take-append-drop, length-take-le, length-replicate}
 use Rattle.std.proofs.lemmas.Bool.{eqb-true, le-leb, leb-true, true≢false}
 use Rattle.letters.specs.declared.text.Text.{Text}
-use Rattle.letters.specs.Characters.{longest_text, printable, text_wrong}
+use Rattle.letters.specs.declared.text.TheConstants.{LONGEST_TEXT}
+use Rattle.letters.specs.Characters.{printable, text_wrong}
 use Rattle.letters.specs.Checks.{check, first_failing}
 use Rattle.letters.specs.Forms.{FirstWrong, Lawful}
 use Rattle.letters.specs.Numbers.{padded}
@@ -20,14 +21,14 @@ long : (t : Text) → length (text_bytes t) ≡ t.len
 long t = length-take-le t.len t.chars (omega (arith, t.short, t.sized))
 
 -- the characters are the text's bytes with zeros after them
-pub text_padded : (t : Text) → t.chars ≡ padded longest_text (text_bytes t)
+pub text_padded : (t : Text) → t.chars ≡ padded LONGEST_TEXT (text_bytes t)
 text_padded t =
     sym (take-append-drop t.len t.chars) ∙ ap (λ l. text_bytes t ++ l) t.blank
-    ∙ ap (λ n. text_bytes t ++ replicate (longest_text - n) 0) (sym (long t))
+    ∙ ap (λ n. text_bytes t ++ replicate (LONGEST_TEXT - n) 0) (sym (long t))
 
 -- the text of bytes in which nothing is wrong has these bytes
 made_chars : (bs : List ℕ) (spoilt : Bool) (e : is_some (text_wrong bs) ≡ spoilt) → spoilt ≡ false
-    → ((text_or_none bs spoilt e).chars ≡ padded longest_text bs) × ((text_or_none bs spoilt e).len ≡ length bs)
+    → ((text_or_none bs spoilt e).chars ≡ padded LONGEST_TEXT bs) × ((text_or_none bs spoilt e).len ≡ length bs)
 unfolding text_or_none text_made
 made_chars bs false e f = (refl, refl)
 made_chars bs true e f = absurd (true≢false f)
@@ -42,16 +43,16 @@ spaces_clean : (place n : ℕ) → is_some (first_failing printable place (repli
 spaces_clean place zero = refl
 spaces_clean place (suc n) = spaces_clean (place + 1) n
 
-spaces_right : (n : ℕ) → n ≤ longest_text → is_some (text_wrong (replicate n 32)) ≡ false
+spaces_right : (n : ℕ) → n ≤ LONGEST_TEXT → is_some (text_wrong (replicate n 32)) ≡ false
 spaces_right n h =
     let many : length (replicate {A = ℕ} n 32) ≡ n = length-replicate {A = ℕ} n 32 in
-    ap (λ b. is_some (check b longest_text (first_failing printable 0 (replicate n 32)))) (le-leb (length (replicate {A = ℕ} n 32)) longest_text (omega (arith, many, h))) ∙ spaces_clean 0 n
+    ap (λ b. is_some (check b LONGEST_TEXT (first_failing printable 0 (replicate n 32)))) (le-leb (length (replicate {A = ℕ} n 32)) LONGEST_TEXT (omega (arith, many, h))) ∙ spaces_clean 0 n
 
 text_length_known : (k n : ℕ) → text_form.has_kind k ≡ true → text_form.has_length k n ≡ true → (t : Text) × (1 ≡ k) × (length (text_bytes t) ≡ n)
 unfolding text_of
 text_length_known k n e l =
     let bs : List ℕ = replicate n 32 in
-    let made = made_chars bs (is_some (text_wrong bs)) refl (spaces_right n (leb-true n longest_text l)) in
+    let made = made_chars bs (is_some (text_wrong bs)) refl (spaces_right n (leb-true n LONGEST_TEXT l)) in
     (text_of bs, sym (eqb-true k 1 e), long (text_of bs) ∙ made.1 ∙ length-replicate {A = ℕ} n 32)
 
 -- the text of bytes in which nothing is wrong has these bytes
@@ -92,15 +93,15 @@ mended_right (suc place) (b ∷ bs) start each =
     let later = mended_right place bs (start + 1) (λ k h. each (suc k) (omega arith)) in
     rw here later
 
-text_clean : (bs : List ℕ) → length bs ≤ longest_text → first_failing printable 0 bs ≡ None → is_some (text_wrong bs) ≡ false
-text_clean bs h e = ap (λ b. is_some (check b longest_text (first_failing printable 0 bs))) (le-leb (length bs) longest_text h) ∙ ap is_some e
+text_clean : (bs : List ℕ) → length bs ≤ LONGEST_TEXT → first_failing printable 0 bs ≡ None → is_some (text_wrong bs) ≡ false
+text_clean bs h e = ap (λ b. is_some (check b LONGEST_TEXT (first_failing printable 0 bs))) (le-leb (length bs) LONGEST_TEXT h) ∙ ap is_some e
 
 text_first_wrong : (k : ℕ) (bs : List ℕ) (place : ℕ) → text_form.has_kind k ≡ true → text_form.has_length k (length bs) ≡ true
     → text_wrong bs ≡ Some place → FirstWrong text_form k (length bs) bs place
 text_first_wrong k bs place e l wrong =
-    let few : length bs ≤ longest_text = leb-true (length bs) longest_text l in
+    let few : length bs ≤ LONGEST_TEXT = leb-true (length bs) LONGEST_TEXT l in
     let found : first_failing printable 0 bs ≡ Some place =
-    sym (ap (λ b. check b longest_text (first_failing printable 0 bs)) (le-leb (length bs) longest_text few)) ∙ wrong in
+    sym (ap (λ b. check b LONGEST_TEXT (first_failing printable 0 bs)) (le-leb (length bs) LONGEST_TEXT few)) ∙ wrong in
     let fails = fails_at printable 0 bs place found in
     let at : place ≡ fails.at = omega (arith, fails.is) in
     let new : List ℕ = mended place bs in
@@ -114,7 +115,7 @@ text_first_wrong k bs place e l wrong =
       never = λ t kind size agree.
           let same : slice_index (text_bytes t) place ≡ slice_index bs place = agree place (omega (arith, fails.inside)) (omega arith) in
           let clean = none_found (text_wrong (text_bytes t)) t.clean in
-          let each = each_passes printable 0 (text_bytes t) (passed (nat_le (length (text_bytes t)) longest_text) longest_text _ clean).1 place (omega (arith, fails.inside, size)) in
+          let each = each_passes printable 0 (text_bytes t) (passed (nat_le (length (text_bytes t)) LONGEST_TEXT) LONGEST_TEXT _ clean).1 place (omega (arith, fails.inside, size)) in
           true≢false (sym each ∙ ap printable same ∙ ap (λ j. printable (slice_index bs j)) at ∙ fails.fails);
     }
 
@@ -122,13 +123,13 @@ pub text_lawful : Lawful text_form
 text_lawful = record {
   back = text_back;
   kind_right = λ t. refl;
-  length_right = λ t. le-leb (length (text_bytes t)) longest_text (omega (arith, long t, t.short));
+  length_right = λ t. le-leb (length (text_bytes t)) LONGEST_TEXT (omega (arith, long t, t.short));
   right = λ t. none_found (text_wrong (text_bytes t)) t.clean;
   kind_known = λ k e. (text_of [], sym (eqb-true k 1 e));
   length_known = text_length_known;
   bytes_known = λ k bs small e l right. text_bytes_known k bs e right;
   first_wrong = text_first_wrong;
   starts_back = λ k n place. omega arith;
-  near = λ k bs h. near_check (nat_le (length bs) longest_text) longest_text _ (omega arith) (near_failing printable 0 bs (omega arith));
-  short = λ k n e. leb-true n longest_text e;
+  near = λ k bs h. near_check (nat_le (length bs) LONGEST_TEXT) LONGEST_TEXT _ (omega arith) (near_failing printable 0 bs (omega arith));
+  short = λ k n e. leb-true n LONGEST_TEXT e;
 }

@@ -1,6 +1,6 @@
 // What a letter can carry.
 ghost use Rattle.std.specs.Prelude.{◌≡◌, ◌≤◌, true, length, None};
-ghost use Rattle.letters.specs.Forms.{Form, Lawful, body_space};
+ghost use Rattle.letters.specs.Forms.{Form, Lawful};
 ghost use Rattle.letters.specs.Numbers.{padded};
 
 // How many bytes a record has for its body.
@@ -8,8 +8,8 @@ pub const BODY_SPACE: usize = 60;
 
 // Bytes with zeros after them, in the space that a record has for its body.
 pub(crate) fn padded(front: &[u8]) -> [u8; BODY_SPACE]
-    requires { length front.now ≤ body_space }
-    ensures { result ≡ padded body_space front.now }
+    requires { length front.now ≤ BODY_SPACE }
+    ensures { result ≡ padded BODY_SPACE front.now }
 {
     let mut bytes = [0; BODY_SPACE];
     bytes[..front.len()].copy_from_slice(front);
@@ -50,7 +50,7 @@ pub trait Body: Copy {
 
     // This body's bytes, and zeros after them.
     fn to_bytes(&self) -> [u8; BODY_SPACE]
-        ensures { result ≡ padded body_space (form.bytes self.now) };
+        ensures { result ≡ padded BODY_SPACE (form.bytes self.now) };
 
     ghost lawful: { Lawful form };
 }

@@ -1,6 +1,5 @@
 // Jobs as bodies of letters.
 ghost use Rattle.std.specs.Prelude.{◌≡◌, ◌∷◌, length, None};
-ghost use Rattle.letters.specs.Forms.{body_space};
 ghost use Rattle.letters.specs.Jobs.{add_wrong, job_bytes, job_form, said, strike_answer, strike_wrong};
 ghost use Rattle.letters.specs.Numbers.{bytes_of_16, padded};
 ghost use Rattle.letters.specs.Refusals.{told};
@@ -30,14 +29,14 @@ impl Job {
 }
 
 fn add_bytes(code: u32) -> [u8; BODY_SPACE]
-    ensures { result ≡ padded body_space (job_bytes (Job.Add code)) }
+    ensures { result ≡ padded BODY_SPACE (job_bytes (Job.Add code)) }
 {
     let [a, b, c, d] = code.to_le_bytes();
     padded(&[1, a, b, c, d])
 }
 
 fn strike_bytes(id: LetterId) -> [u8; BODY_SPACE]
-    ensures { result ≡ padded body_space (job_bytes (Job.Strike id)) }
+    ensures { result ≡ padded BODY_SPACE (job_bytes (Job.Strike id)) }
 {
     let [low, high] = id.number().to_le_bytes();
     padded(&[2, id.poster(), low, high])

@@ -1,6 +1,7 @@
 // A text.
 ghost use Rattle.std.specs.Prelude.{◌≡◌, ◌-◌, ◌≤◌, false, length, take, drop, replicate, is_some};
-ghost use Rattle.letters.specs.Characters.{longest_text, text_wrong};
+ghost use Rattle.letters.specs.declared.text.TheConstants.{LONGEST_TEXT};
+ghost use Rattle.letters.specs.Characters.{text_wrong};
 
 pub mod reading;
 
@@ -13,8 +14,8 @@ pub const LONGEST_TEXT: usize = 60;
 pub struct Text {
     chars: [u8; LONGEST_TEXT],
     len: u8,
-    ghost sized: { length chars ≡ longest_text },
-    ghost short: { len ≤ longest_text },
+    ghost sized: { length chars ≡ LONGEST_TEXT },
+    ghost short: { len ≤ LONGEST_TEXT },
     ghost clean: { is_some (text_wrong (take len chars)) ≡ false },
-    ghost blank: { drop len chars ≡ replicate (longest_text - len) 0 },
+    ghost blank: { drop len chars ≡ replicate (LONGEST_TEXT - len) 0 },
 }

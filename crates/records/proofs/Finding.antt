@@ -9,11 +9,12 @@ use Rattle.records.specs.declared.fault.Fault.{Fault}
 use Rattle.records.specs.Faults.{fault_reason}
 use Rattle.records.specs.Reading.{parts_left, read_answer}
 use Rattle.records.specs.Readers.{right, wrong, found, left, looked_at}
-use Rattle.records.specs.Records.{record_size, wrong_front}
+use Rattle.records.specs.declared.record.TheConstants.{RECORD_SIZE}
+use Rattle.records.specs.Records.{wrong_front}
 
 -- the part of the file that the reader looks at
-pub next_part : (bs : List ℕ) (index : ℕ) → take (length bs - record_size * index) (drop (record_size * index) bs) ≡ left bs index
-next_part bs index = take_rest bs (record_size * index)
+pub next_part : (bs : List ℕ) (index : ℕ) → take (length bs - RECORD_SIZE * index) (drop (RECORD_SIZE * index) bs) ≡ left bs index
+next_part bs index = take_rest bs (RECORD_SIZE * index)
 
 -- the byte that an answer names
 abbrev byte_of : Result (Unit {0}) Reason → ℕ

@@ -5,7 +5,8 @@ use Rattle.std.proofs.lemmas.Bool.{cases_lt, ne_eqb, eq-eqb, eqb-true, eqb-false
 use Rattle.letters.specs.declared.letter.Letter.{Letter}
 use Rattle.letters.specs.Checks.{first_failing}
 use Rattle.letters.specs.ChecksLemmas.{failed, fails_at, some_none}
-use Rattle.letters.specs.Forms.{FirstWrong, Form, Lawful, body_space}
+use Rattle.letters.specs.declared.body.TheConstants.{BODY_SPACE}
+use Rattle.letters.specs.Forms.{FirstWrong, Form, Lawful}
 use Rattle.letters.specs.Letters.{parts_of}
 use Rattle.letters.specs.Numbers.{bytes_of_16, number_16}
 use Rattle.letters.specs.NumbersLemmas.{bytes_of_16_back}
@@ -13,7 +14,8 @@ use Rattle.records.specs.declared.fault.Fault.{Fault}
 use Rattle.records.specs.Faults.{told_fault}
 use Rattle.records.specs.Reading.{read_answer}
 use Rattle.records.specs.Naming.{AgreesBefore, FirstWrongByte, Named, turn}
-use Rattle.records.specs.Records.{body_part, first_of, is_zero, kind_byte, length_byte, padding, poster_byte, record_of, record_size, wrong_byte, wrong_front, wrong_header, zero_byte}
+use Rattle.records.specs.declared.record.TheConstants.{RECORD_SIZE}
+use Rattle.records.specs.Records.{body_part, first_of, is_zero, kind_byte, length_byte, padding, poster_byte, record_of, wrong_byte, wrong_front, wrong_header, zero_byte}
 use Rattle.records.proofs.Entries.{byte_written, number_front}
 use Rattle.records.proofs.Finding.{answered_wrong}
 use Rattle.records.proofs.Headers.{RightHeader, right_header}
@@ -46,14 +48,14 @@ module _ {B : Type 0} (form : Form B) (laws : Lawful form) where
         sym (get_or-drop 36 rec j 0) ∙ sym (get_or-take (length_byte rec) (drop 36 rec) j 0 (omega (arith, size)))
         ∙ ap (λ l. get_or l j 0) (body_is form (parts_of m) m.sized)
 
-    in_rest : (k : ℕ) → 36 + length inner ≤ k → k < 96 → get_or rec k 0 ≡ 0
+    in_rest : (k : ℕ) → 36 + length inner ≤ k → k < RECORD_SIZE → get_or rec k 0 ≡ 0
     in_rest k h l =
         let size : length_byte rec ≡ length inner = length_is form (parts_of m) m.sized in
         let i : ℕ = k - (36 + length inner) in
         let at : 36 + length_byte rec + i ≡ k = omega (arith, size) in
         sym (ap (λ n. get_or rec n 0) at) ∙ sym (get_or-drop (36 + length_byte rec) rec i 0)
         ∙ ap (λ l. get_or l i 0) (padding_is form (parts_of m) m.sized)
-        ∙ get_or-replicate (body_space - length inner) i 0 0 (omega arith)
+        ∙ get_or-replicate (BODY_SPACE - length inner) i 0 0 (omega arith)
 
   -- a letter with this poster, number and body
   abbrev with_number : (p n : ℕ) (b : B) → p < 16 → 0 < n → Letter B
@@ -61,7 +63,7 @@ module _ {B : Type 0} (form : Form B) (laws : Lawful form) where
       let entry = get_or-replicate 16 p n 0 seat in
       record { stamp = record { entries = replicate 16 n }; poster = p; body = b; sized = refl; seated = seat; counted = omega arith }
 
-  module _ (bs : List ℕ) (long : length bs ≡ record_size) (small : (i : ℕ) → get_or bs i 0 < 256) where
+  module _ (bs : List ℕ) (long : length bs ≡ RECORD_SIZE) (small : (i : ℕ) → get_or bs i 0 < 256) where
     abbrev s : ℕ
     s = poster_byte bs
 
@@ -72,18 +74,18 @@ module _ {B : Type 0} (form : Form B) (laws : Lawful form) where
     starts j = form.starts (kind_byte bs) len j
 
     -- the turns
-    turn_stamp : (k : ℕ) → k < 32 → ((k / 2 ≡ s) × (turn form bs k ≡ 1)) ⊎ (turn form bs k ≡ record_size)
+    turn_stamp : (k : ℕ) → k < 32 → ((k / 2 ≡ s) × (turn form bs k ≡ 1)) ⊎ (turn form bs k ≡ RECORD_SIZE)
     turn_stamp k h = go (k / 2 == s) refl
       where
-        is : turn form bs k ≡ cond (k / 2 == s) 1 record_size
+        is : turn form bs k ≡ cond (k / 2 == s) 1 RECORD_SIZE
         is =
             let a : eqb k 32 ≡ false = ne_eqb k 32 (λ e. omega arith) in
             let b : ltb k 32 ≡ true = lt-ltb k 32 h in
             rw (a, b)
 
-        go : (own : Bool) → (k / 2 == s) ≡ own → ((k / 2 ≡ s) × (turn form bs k ≡ 1)) ⊎ (turn form bs k ≡ record_size)
-        go true e = inl (eqb-true (k / 2) s e, is ∙ ap (λ b. cond b 1 record_size) e)
-        go false e = inr (is ∙ ap (λ b. cond b 1 record_size) e)
+        go : (own : Bool) → (k / 2 == s) ≡ own → ((k / 2 ≡ s) × (turn form bs k ≡ 1)) ⊎ (turn form bs k ≡ RECORD_SIZE)
+        go true e = inl (eqb-true (k / 2) s e, is ∙ ap (λ b. cond b 1 RECORD_SIZE) e)
+        go false e = inr (is ∙ ap (λ b. cond b 1 RECORD_SIZE) e)
 
     turn_own : (k : ℕ) → k < 32 → k / 2 ≡ s → turn form bs k ≡ 1
     turn_own k h e =
@@ -133,7 +135,7 @@ module _ {B : Type 0} (form : Form B) (laws : Lawful form) where
 
     -- what a letter has to have so that its record agrees before a turn
     record Fits (m : Letter B) (t : ℕ) : Type 0 where
-      few : t ≤ record_size
+      few : t ≤ RECORD_SIZE
       poster : 0 < t → m.poster ≡ s
       number : 1 < t → get_or m.stamp.entries s 0 ≡ number_16 (2 * s) bs
       kind : 33 < t → form.kind m.body ≡ kind_byte bs
@@ -201,7 +203,7 @@ module _ {B : Type 0} (form : Form B) (laws : Lawful form) where
           (cases_lt k 32)
 
     -- a place whose turn is its own is the first with it
-    first_late : (p : ℕ) → 32 < p → p < record_size → turn form bs p ≡ p → (k : ℕ) → turn form bs k ≡ turn form bs p → p ≤ k
+    first_late : (p : ℕ) → 32 < p → p < RECORD_SIZE → turn form bs p ≡ p → (k : ℕ) → turn form bs k ≡ turn form bs p → p ≤ k
     first_late p h l e k same = ⊎_elim
         (λ lt. ⊎_elim (λ own. absurd (omega (arith, own.1))) (λ past. absurd (omega arith)) (turn_stamp k lt))
         (λ ge. let back = turn_back k ge in omega arith)
@@ -321,7 +323,7 @@ module _ {B : Type 0} (form : Form B) (laws : Lawful form) where
               }
 
           module _ (sized : form.has_length (kind_byte bs) len ≡ true) where
-            room : len ≤ body_space
+            room : len ≤ BODY_SPACE
             room = laws.short (kind_byte bs) len sized
 
             blank_wrong : ¬ (zero_byte bs ≡ 0) → FirstWrongByte form bs 35
@@ -396,9 +398,9 @@ module _ {B : Type 0} (form : Form B) (laws : Lawful form) where
                   let fails = fails_at is_zero (36 + len) (padding bs) p e in
                   let sized' : form.has_length (kind_byte bs) (length (body_part bs)) ≡ true = ap (form.has_length (kind_byte bs)) body_long ∙ sized in
                   let b = laws.bytes_known (kind_byte bs) (body_part bs) body_small known sized' right in
-                  let left : length (padding bs) ≡ 96 - (36 + len) = length-drop (36 + len) bs ∙ ap (λ n. n - (36 + len)) long in
+                  let left : length (padding bs) ≡ RECORD_SIZE - (36 + len) = length-drop (36 + len) bs ∙ ap (λ n. n - (36 + len)) long in
                   let size : length (form.bytes b.0) ≡ len = ap length b.2 ∙ body_long in
-                  let few : p < record_size = omega (arith, fails.is, fails.inside, room) in
+                  let few : p < RECORD_SIZE = omega (arith, fails.is, fails.inside, room) in
                   let late : 36 + len ≤ p = omega (arith, fails.is) in
                   let own : turn form bs p ≡ p = turn_rest p late in
                   let at : p ≡ 36 + len + fails.at = fails.is in
@@ -471,15 +473,15 @@ module _ {B : Type 0} (form : Form B) (laws : Lawful form) where
   pub named : (bs : List ℕ) → ((i : ℕ) → get_or bs i 0 < 256) → (byte : ℕ) → wrong_front form bs ≡ Some byte → Named form bs byte
   named bs small byte e = record {
     whole = λ enough.
-        first_wrong_byte (take record_size bs) (length-take-le record_size bs enough) in_front byte (sym (front_whole form laws bs enough) ∙ e);
-    short = λ few. ⊎_elim (λ f. f.1) (λ f. absurd (let enough = leb-true record_size (length bs) f.0 in omega arith)) (failed (leb record_size (length bs)) (length bs) _ byte e);
+        first_wrong_byte (take RECORD_SIZE bs) (length-take-le RECORD_SIZE bs enough) in_front byte (sym (front_whole form laws bs enough) ∙ e);
+    short = λ few. ⊎_elim (λ f. f.1) (λ f. absurd (let enough = leb-true RECORD_SIZE (length bs) f.0 in omega arith)) (failed (leb RECORD_SIZE (length bs)) (length bs) _ byte e);
   }
     where
-      in_front : (i : ℕ) → get_or (take record_size bs) i 0 < 256
+      in_front : (i : ℕ) → get_or (take RECORD_SIZE bs) i 0 < 256
       in_front i = ⊎_elim
-          (λ h. subst (λ b. b < 256) (sym (get_or-take record_size bs i 0 h)) (small i))
-          (λ h. let past = get_or_past (take record_size bs) i 0 (omega (arith, length-take record_size bs)) in omega arith)
-          (cases_lt i record_size)
+          (λ h. subst (λ b. b < 256) (sym (get_or-take RECORD_SIZE bs i 0 h)) (small i))
+          (λ h. let past = get_or_past (take RECORD_SIZE bs) i 0 (omega (arith, length-take RECORD_SIZE bs)) in omega arith)
+          (cases_lt i RECORD_SIZE)
 
   -- what a read that is refused names
   pub read_named : (bs : List ℕ) → ((i : ℕ) → get_or bs i 0 < 256) → (r : Result (Unit {0}) Fault) → told_fault r ≡ read_answer (wrong_front form bs)

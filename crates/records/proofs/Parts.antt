@@ -3,11 +3,13 @@ use Rattle.std.proofs.Common.{◌≡◌, ℕ, ◌+◌, ◌-◌, ◌*◌, ◌≤�
 use Rattle.std.proofs.lemmas.List.{take_at, drop_at, drop-drop, drop_more, get_or-append_right, length-append, length-replicate, length-take-le, length-drop, take-append-drop, ext_get_or, get_or-replicate}
 use Rattle.std.proofs.lemmas.Bool.{eqb-true, eq-eqb}
 use Rattle.letters.specs.Checks.{first_failing}
-use Rattle.letters.specs.Forms.{Form, Lawful, body_space}
+use Rattle.letters.specs.declared.body.TheConstants.{BODY_SPACE}
+use Rattle.letters.specs.Forms.{Form, Lawful}
 use Rattle.letters.specs.declared.parts.Parts.{Parts}
 use Rattle.letters.specs.Numbers.{padded}
 use Rattle.letters.specs.ChecksLemmas.{each_passes, none_fails}
-use Rattle.records.specs.Records.{body_part, is_zero, kind_byte, length_byte, padding, parts_record, poster_byte, record_size, stamp_bytes, zero_byte}
+use Rattle.records.specs.declared.record.TheConstants.{RECORD_SIZE}
+use Rattle.records.specs.Records.{body_part, is_zero, kind_byte, length_byte, padding, parts_record, poster_byte, stamp_bytes, zero_byte}
 use Rattle.records.proofs.Entries.{length_written}
 use Rattle.records.proofs.Headers.{RightHeader}
 
@@ -28,7 +30,7 @@ module _ {B : Type 0} (form : Form B) (p : Parts B) where
   body = form.bytes p.body
 
   abbrev tail : List ℕ
-  tail = p.poster ∷ form.kind p.body ∷ length body ∷ 0 ∷ padded body_space body
+  tail = p.poster ∷ form.kind p.body ∷ length body ∷ 0 ∷ padded BODY_SPACE body
 
   abbrev bs : List ℕ
   bs = parts_record form p
@@ -36,9 +38,9 @@ module _ {B : Type 0} (form : Form B) (p : Parts B) where
   -- a record has 96 bytes where the stamp has its sixteen entries
   pub parts-length : Lawful form → length bs ≡ 2 * length p.stamp.entries + 64
   parts-length laws =
-      let short : length body ≤ body_space = laws.short (form.kind p.body) (length body) (laws.length_right p.body) in
-      let pad = length-append body (replicate {A = ℕ} (body_space - length body) 0) in
-      let none = length-replicate {A = ℕ} (body_space - length body) 0 in
+      let short : length body ≤ BODY_SPACE = laws.short (form.kind p.body) (length body) (laws.length_right p.body) in
+      let pad = length-append body (replicate {A = ℕ} (BODY_SPACE - length body) 0) in
+      let none = length-replicate {A = ℕ} (BODY_SPACE - length body) 0 in
       let all = length-append (stamp_bytes p.stamp) tail in
       let front = length_written p.stamp.entries in
       omega arith
@@ -67,19 +69,19 @@ module _ {B : Type 0} (form : Form B) (p : Parts B) where
     pub blank_is : zero_byte bs ≡ 0
     blank_is = after 3
 
-    area : drop 36 bs ≡ padded body_space body
+    area : drop 36 bs ≡ padded BODY_SPACE body
     area = sym (drop-drop 4 32 bs) ∙ ap (drop 4) (drop_at (stamp_bytes p.stamp) tail 32 stamp_long)
 
     pub body_is : body_part bs ≡ body
     body_is = ap (λ n. take n (drop 36 bs)) length_is ∙ ap (take (length body)) area ∙ take_at body _ (length body) refl
 
-    pub padding_is : padding bs ≡ replicate (body_space - length body) 0
+    pub padding_is : padding bs ≡ replicate (BODY_SPACE - length body) 0
     padding_is =
         ap (λ n. drop (36 + n) bs) length_is ∙ sym (drop-drop (length body) 36 bs) ∙ ap (drop (length body)) area
         ∙ drop_at body _ (length body) refl
 
 -- the parts of 96 bytes
-split : (bs : List ℕ) → length bs ≡ record_size
+split : (bs : List ℕ) → length bs ≡ RECORD_SIZE
     → bs ≡ take 32 bs ++ (poster_byte bs ∷ kind_byte bs ∷ length_byte bs ∷ zero_byte bs ∷ (body_part bs ++ padding bs))
 split bs n =
     let len : ℕ = length_byte bs in
@@ -93,17 +95,17 @@ split bs n =
     cc
 
 -- bytes in which nothing is wrong are the record of the parts that they write
-pub record_back : {B : Type 0} (form : Form B) (p : Parts B) (bs : List ℕ) → length bs ≡ record_size → RightHeader form bs → length_byte bs ≤ body_space
+pub record_back : {B : Type 0} (form : Form B) (p : Parts B) (bs : List ℕ) → length bs ≡ RECORD_SIZE → RightHeader form bs → length_byte bs ≤ BODY_SPACE
     → stamp_bytes p.stamp ≡ take 32 bs → p.poster ≡ poster_byte bs → form.kind p.body ≡ kind_byte bs → form.bytes p.body ≡ body_part bs
     → first_failing is_zero (36 + length_byte bs) (padding bs) ≡ None → parts_record form p ≡ bs
 record_back form p bs n header short stamp poster kind same blank =
     let body : List ℕ = form.bytes p.body in
     let len : ℕ = length_byte bs in
-    let after : length (drop 36 bs) ≡ 60 = simp length-drop (omega arith) in
+    let after : length (drop 36 bs) ≡ BODY_SPACE = simp length-drop (omega arith) in
     let sized : length (body_part bs) ≡ len = length-take-le len (drop 36 bs) (omega arith) in
-    let left : length (padding bs) ≡ 60 - len = simp length-drop (omega arith) in
-    let pad : padding bs ≡ replicate (60 - len) 0 = zeros (36 + len) (padding bs) blank ∙ ap (λ k. replicate k 0) left in
+    let left : length (padding bs) ≡ BODY_SPACE - len = simp length-drop (omega arith) in
+    let pad : padding bs ≡ replicate (BODY_SPACE - len) 0 = zeros (36 + len) (padding bs) blank ∙ ap (λ k. replicate k 0) left in
     let all = split bs n in
     let gap = header.blank in
-    let bodies : padded body_space body ≡ body_part bs ++ padding bs = cc in
+    let bodies : padded BODY_SPACE body ≡ body_part bs ++ padding bs = cc in
     cc

@@ -4,12 +4,14 @@ use Rattle.std.proofs.lemmas.List.{length-take-le}
 use Rattle.std.proofs.lemmas.Bool.{le-leb, lt-leb, lt-ltb, leb-true}
 use Rattle.letters.specs.declared.letter.Letter.{Letter}
 use Rattle.letters.specs.Checks.{first_failing}
-use Rattle.letters.specs.Forms.{Form, Lawful, body_space}
+use Rattle.letters.specs.declared.body.TheConstants.{BODY_SPACE}
+use Rattle.letters.specs.Forms.{Form, Lawful}
 use Rattle.letters.specs.declared.parts.Parts.{Parts}
 use Rattle.letters.specs.Letters.{parts, parts_of, entry_at, letter_check}
 use Rattle.letters.specs.Numbers.{number_16}
 use Rattle.letters.specs.ChecksLemmas.{passed, some_none}
-use Rattle.records.specs.Records.{body_part, first_of, is_zero, kind_byte, length_byte, padding, parts_record, parts_written, poster_byte, record_of, record_size, stamp_bytes, stamp_of, wrong_byte, wrong_front, wrong_header}
+use Rattle.records.specs.declared.record.TheConstants.{RECORD_SIZE}
+use Rattle.records.specs.Records.{body_part, first_of, is_zero, kind_byte, length_byte, padding, parts_record, parts_written, poster_byte, record_of, stamp_bytes, stamp_of, wrong_byte, wrong_front, wrong_header}
 use Rattle.records.specs.declared.fault.Fault.{Fault}
 use Rattle.records.specs.Faults.{told_fault}
 use Rattle.records.specs.Reading.{Begins, LeftBy, Undoes, parts_left, read_answer}
@@ -31,7 +33,7 @@ read_ok (Err fault) e = let z : ◌≡◌ {A = ℕ} 0 1 = cc in absurd (omega ar
 
 module _ {B : Type 0} (form : Form B) (laws : Lawful form) where
   -- a letter's record has 96 bytes
-  pub record_long : (m : Letter B) → length (record_of form m) ≡ record_size
+  pub record_long : (m : Letter B) → length (record_of form m) ≡ RECORD_SIZE
   record_long m = omega (arith, parts-length form (parts_of m) laws, m.sized)
 
   -- no byte of a letter's record is wrong
@@ -59,18 +61,18 @@ module _ {B : Type 0} (form : Form B) (laws : Lawful form) where
       ap (λ k. form.wrong k (body_part bs)) kind ∙ ap (form.wrong (form.kind m.body)) (body_is form p m.sized) ∙ laws.right m.body in
       let pad : first_failing is_zero (36 + length_byte bs) (padding bs) ≡ None =
       ap (first_failing is_zero (36 + length_byte bs)) (padding_is form p m.sized)
-      ∙ zeros_right (36 + length_byte bs) (body_space - length (form.bytes m.body)) in
+      ∙ zeros_right (36 + length_byte bs) (BODY_SPACE - length (form.bytes m.body)) in
       rw (head, inner, pad)
 
   -- bytes in which nothing is wrong are the record of the parts that are read from them
-  pub read_back : (p : Parts B) (bs : List ℕ) → length bs ≡ record_size → wrong_byte form bs ≡ None
+  pub read_back : (p : Parts B) (bs : List ℕ) → length bs ≡ RECORD_SIZE → wrong_byte form bs ≡ None
       → stamp_bytes p.stamp ≡ take 32 bs → p.poster ≡ poster_byte bs → form.kind p.body ≡ kind_byte bs
       → form.bytes p.body ≡ body_part bs → parts_record form p ≡ bs
   read_back p bs size right stamp poster kind body =
       let head = first_none 0 (wrong_header form bs) _ right in
       let inner = first_none 36 (form.wrong (kind_byte bs) (body_part bs)) _ head.1 in
       let header : RightHeader form bs = right_header form bs head.0 in
-      let short : length_byte bs ≤ body_space = laws.short (kind_byte bs) (length_byte bs) header.sized in
+      let short : length_byte bs ≤ BODY_SPACE = laws.short (kind_byte bs) (length_byte bs) header.sized in
       record_back form p bs size header short stamp poster kind body inner.1
 
   -- the parts that a record writes are those of which it is the record
@@ -86,7 +88,7 @@ module _ {B : Type 0} (form : Form B) (laws : Lawful form) where
       λ i. parts (stamp i) (poster i) (body i)
 
   -- parts whose record is right are a letter's
-  pub made_letter : (p : Parts B) (bs : List ℕ) → length bs ≡ record_size → wrong_byte form bs ≡ None → parts_record form p ≡ bs
+  pub made_letter : (p : Parts B) (bs : List ℕ) → length bs ≡ RECORD_SIZE → wrong_byte form bs ≡ None → parts_record form p ≡ bs
       → (m : Letter B) × (p ≡ parts_of m)
   made_letter p bs size right e =
       let sixteen : length p.stamp.entries ≡ 16 = omega (arith, sym (parts-length form p laws) ∙ ap length e) in
@@ -100,7 +102,7 @@ module _ {B : Type 0} (form : Form B) (laws : Lawful form) where
       (record { stamp = p.stamp; poster = p.poster; body = p.body; sized = sixteen; seated = seated; counted = omega arith }, refl)
 
   -- and can be made one
-  pub made-check : (p : Parts B) (bs : List ℕ) → length bs ≡ record_size → wrong_byte form bs ≡ None → parts_record form p ≡ bs
+  pub made-check : (p : Parts B) (bs : List ℕ) → length bs ≡ RECORD_SIZE → wrong_byte form bs ≡ None → parts_record form p ≡ bs
       → letter_check p.stamp p.poster ≡ Ok tt
   made-check p bs size right e =
       let made = made_letter p bs size right e in
@@ -111,32 +113,32 @@ module _ {B : Type 0} (form : Form B) (laws : Lawful form) where
       same ∙ rw (a, b)
 
   -- of 96 bytes and more, the first wrong byte is that of the record in front
-  pub front_whole : (bs : List ℕ) → record_size ≤ length bs → wrong_front form bs ≡ wrong_byte form (take record_size bs)
-  front_whole bs long = let e : leb record_size (length bs) ≡ true = le-leb record_size (length bs) long in rw e
+  pub front_whole : (bs : List ℕ) → RECORD_SIZE ≤ length bs → wrong_front form bs ≡ wrong_byte form (take RECORD_SIZE bs)
+  front_whole bs long = let e : leb RECORD_SIZE (length bs) ≡ true = le-leb RECORD_SIZE (length bs) long in rw e
 
   -- of fewer, how many there are
-  pub front_short : (bs : List ℕ) → length bs < record_size → wrong_front form bs ≡ Some (length bs)
-  front_short bs few = let e : leb record_size (length bs) ≡ false = lt-leb record_size (length bs) few in rw e
+  pub front_short : (bs : List ℕ) → length bs < RECORD_SIZE → wrong_front form bs ≡ Some (length bs)
+  front_short bs few = let e : leb RECORD_SIZE (length bs) ≡ false = lt-leb RECORD_SIZE (length bs) few in rw e
 
-  pub front_right : (bs : List ℕ) → wrong_front form bs ≡ None → (record_size ≤ length bs) × (wrong_byte form (take record_size bs) ≡ None)
+  pub front_right : (bs : List ℕ) → wrong_front form bs ≡ None → (RECORD_SIZE ≤ length bs) × (wrong_byte form (take RECORD_SIZE bs) ≡ None)
   front_right bs e =
-      let both = passed (leb record_size (length bs)) (length bs) (wrong_byte form (take record_size bs)) e in
-      (leb-true record_size (length bs) both.0, both.1)
+      let both = passed (leb RECORD_SIZE (length bs)) (length bs) (wrong_byte form (take RECORD_SIZE bs)) e in
+      (leb-true RECORD_SIZE (length bs) both.0, both.1)
 
   -- bytes that begin with a letter's record are right, and write that letter's parts
   pub begun : (bs : List ℕ) (m : Letter B) → Begins form bs (parts_of m)
-      → (wrong_front form bs ≡ None) × (parts_written form (take record_size bs) ≡ parts_of m)
+      → (wrong_front form bs ≡ None) × (parts_written form (take RECORD_SIZE bs) ≡ parts_of m)
   begun bs m begins =
       let right = front_whole bs begins.0 ∙ ap (wrong_byte form) begins.1 ∙ record_right m in
       (right, ap (parts_written form) begins.1 ∙ written_back (parts_of m) m.sized)
 
   -- reading undoes writing where what is read has the record that was read
-  undoes : (bs : List ℕ) (read : Parts B) → (wrong_front form bs ≡ None → parts_record form read ≡ take record_size bs)
+  undoes : (bs : List ℕ) (read : Parts B) → (wrong_front form bs ≡ None → parts_record form read ≡ take RECORD_SIZE bs)
       → Undoes form bs (wrong_front form bs ≡ None) read
   undoes bs read same =
       let whole : wrong_front form bs ≡ None → (m : Letter B) × (read ≡ parts_of m) × Begins form bs (parts_of m) = λ e.
       let right = front_right bs e in
-      let made = made_letter read (take record_size bs) (length-take-le record_size bs right.0) right.1 (same e) in
+      let made = made_letter read (take RECORD_SIZE bs) (length-take-le RECORD_SIZE bs right.0) right.1 (same e) in
       (made.0, made.1, (right.0, sym (same e) ∙ ap (parts_record form) made.1)) in
       record {
         known = λ m begins.
@@ -158,14 +160,14 @@ module _ {B : Type 0} (form : Form B) (laws : Lawful form) where
   left_none bs old new None left e = left
   left_none bs old new (Some place) left e = some_none place e
 
-  left-parts : (bs : List ℕ) (old new : Parts B) (f : Option ℕ) → LeftBy form (take record_size bs) old new f
-      → (f ≡ None → new ≡ parts_written form (take record_size bs)) → new ≡ parts_left form bs f old
+  left-parts : (bs : List ℕ) (old new : Parts B) (f : Option ℕ) → LeftBy form (take RECORD_SIZE bs) old new f
+      → (f ≡ None → new ≡ parts_written form (take RECORD_SIZE bs)) → new ≡ parts_left form bs f old
   left-parts bs old new None left written = written refl
   left-parts bs old new (Some place) left written = left
 
-  module _ (bs : List ℕ) (old new : Parts B) (left : LeftBy form (take record_size bs) old new (wrong_front form bs)) where
+  module _ (bs : List ℕ) (old new : Parts B) (left : LeftBy form (take RECORD_SIZE bs) old new (wrong_front form bs)) where
     pub left_undoes : Undoes form bs (wrong_front form bs ≡ None) new
-    left_undoes = undoes bs new (left_none (take record_size bs) old new (wrong_front form bs) left)
+    left_undoes = undoes bs new (left_none (take RECORD_SIZE bs) old new (wrong_front form bs) left)
 
     pub left_exact : new ≡ parts_left form bs (wrong_front form bs) old
     left_exact =

@@ -1,5 +1,5 @@
 -- Whole files of letters.
-use Rattle.std.specs.Prelude.{◌≡◌, ℕ, zero, suc, ◌+◌, ◌*◌, ◌/◌, ◌≤◌, cond, List, ◌++◌, length, take, drop, Some, None, Ok, Err, Option, Result, nat_le}
+use Rattle.std.specs.Prelude.{◌≡◌, ℕ, zero, suc, ◌+◌, ◌-◌, ◌*◌, ◌/◌, ◌≤◌, cond, List, ◌++◌, length, take, drop, Some, None, Ok, Err, Option, Result, nat_le}
 use Rattle.std.specs.List.{flat_map}
 use Rattle.letters.specs.declared.letter.Letter.{Letter}
 use Rattle.letters.specs.Forms.{Form}
@@ -9,7 +9,8 @@ use Rattle.records.specs.declared.load_refusal.LoadRefusal.{LoadRefusal}
 use Rattle.records.specs.declared.load_refusal.LoadRefusal.TheVariants.{Bad, TooShort}
 use Rattle.records.specs.Faults.{fault_reason}
 use Rattle.records.specs.Readers.{left}
-use Rattle.records.specs.Records.{record_of, record_size, wrong_front}
+use Rattle.records.specs.declared.record.TheConstants.{RECORD_SIZE}
+use Rattle.records.specs.Records.{record_of, wrong_front}
 
 -- the number and the values of each reason not to load a file
 abbrev pub load_reason : LoadRefusal → Reason
@@ -22,7 +23,7 @@ told_load (Err why) = Err (load_reason why)
 
 -- how many records a file begins, the last of which may be cut short
 abbrev pub begun_records : List ℕ → ℕ
-begun_records bs = (length bs + 95) / record_size
+begun_records bs = (length bs + (RECORD_SIZE - 1)) / RECORD_SIZE
 
 -- the fault of a record, or else what comes after it
 abbrev pub fault_or : ℕ → Option ℕ → Option Fault → Option Fault
@@ -36,7 +37,7 @@ load_check (Some fault) count places = Err (fault_reason fault)
 
 -- what saving so many letters answers: how many bytes they take
 abbrev pub save_answer : ℕ → ℕ → Result ℕ Reason
-save_answer count places = unless (nat_le (record_size * count) places) 5 (Ok (record_size * count))
+save_answer count places = unless (nat_le (RECORD_SIZE * count) places) 5 (Ok (RECORD_SIZE * count))
 
 module _ {B : Type 0} (form : Form B) where
   -- a file of letters is their records, one after another
@@ -54,7 +55,7 @@ module _ {B : Type 0} (form : Form B) where
 
   -- what loading a file answers: its first fault, a table too short, or how many letters there are
   abbrev pub load_answer : List ℕ → ℕ → Result ℕ Reason
-  load_answer bs places = load_check (file_fault bs) (length bs / record_size) places
+  load_answer bs places = load_check (file_fault bs) (length bs / RECORD_SIZE) places
 
   -- what it leaves in the table: the letters of which the bytes are the file, and the others as they were
   abbrev pub Loaded : List ℕ → List (Letter B) → List (Letter B) → Result ℕ Reason → Type 0
@@ -74,4 +75,4 @@ module _ {B : Type 0} (form : Form B) where
 
   -- what saving leaves in the buffer: the file at its front
   abbrev pub saved : List (Letter B) → List ℕ → List ℕ
-  saved ms old = cond (nat_le (record_size * length ms) (length old)) (file_of ms ++ drop (record_size * length ms) old) old
+  saved ms old = cond (nat_le (RECORD_SIZE * length ms) (length old)) (file_of ms ++ drop (RECORD_SIZE * length ms) old) old

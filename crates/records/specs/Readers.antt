@@ -8,11 +8,12 @@ use Rattle.records.specs.declared.reader.Reader.{Reader}
 use Rattle.records.specs.Faults.{bad_record, told_fault}
 use Rattle.records.specs.Naming.{Named}
 use Rattle.records.specs.Reading.{Undoes}
-use Rattle.records.specs.Records.{parts_written, record_size, wrong_front}
+use Rattle.records.specs.declared.record.TheConstants.{RECORD_SIZE}
+use Rattle.records.specs.Records.{parts_written, wrong_front}
 
 -- what is left of a file after some records
 abbrev pub left : List ℕ → ℕ → List ℕ
-left bs index = drop (record_size * index) bs
+left bs index = drop (RECORD_SIZE * index) bs
 
 -- what lies before a reader
 abbrev pub ahead : {B : Type 0} → Reader B → List ℕ
@@ -49,7 +50,7 @@ next_index index (wrong byte) = index
 -- what is left in the parts that were lent: only a record that was read fills them
 abbrev pub next_parts : {B : Type 0} → Form B → List ℕ → Parts B → Found → Parts B
 next_parts form bs old at_end = old
-next_parts form bs old right = parts_written form (take record_size bs)
+next_parts form bs old right = parts_written form (take RECORD_SIZE bs)
 next_parts form bs old (wrong byte) = old
 
 -- what one read of a reader does: its answer, where it stands then, that it keeps its bytes, the parts that it leaves, that it

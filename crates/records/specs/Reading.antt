@@ -8,7 +8,8 @@ use Rattle.letters.specs.Refusals.{Reason}
 use Rattle.records.specs.declared.fault.Fault.{Fault}
 use Rattle.records.specs.Faults.{bad_record, told_fault}
 use Rattle.records.specs.Naming.{Named}
-use Rattle.records.specs.Records.{parts_record, parts_written, record_size, wrong_front}
+use Rattle.records.specs.declared.record.TheConstants.{RECORD_SIZE}
+use Rattle.records.specs.Records.{parts_record, parts_written, wrong_front}
 
 -- A record in which nothing is wrong is read; else its first wrong byte is answered. It is the record at the front.
 abbrev pub read_answer : Option ℕ → Result (Unit {0}) Reason
@@ -18,7 +19,7 @@ read_answer (Some byte) = Err (bad_record 0 byte)
 module _ {B : Type 0} (form : Form B) where
   -- what a read of the record at the front of some bytes leaves in the parts that were lent
   abbrev pub parts_left : List ℕ → Option ℕ → Parts B → Parts B
-  parts_left bs None old = parts_written form (take record_size bs)
+  parts_left bs None old = parts_written form (take RECORD_SIZE bs)
   parts_left bs (Some place) old = old
 
   -- so of 96 bytes: parts of which they are the record, or the parts that were there
@@ -28,7 +29,7 @@ module _ {B : Type 0} (form : Form B) where
 
   -- some bytes begin with the record of these parts
   abbrev pub Begins : List ℕ → Parts B → Type 0
-  Begins bs p = (record_size ≤ length bs) × (take record_size bs ≡ parts_record form p)
+  Begins bs p = (RECORD_SIZE ≤ length bs) × (take RECORD_SIZE bs ≡ parts_record form p)
 
   -- Reading undoes writing. Where the bytes begin with a letter's record, it is accepted and that letter's parts are read;
   -- and where it is accepted, the bytes begin with the record of the letter whose parts are read.

@@ -25,7 +25,7 @@ fn first_fault<B: Body>(bytes: &[u8]) -> Option<Fault>
 
 // Fills the front of a table with the letters of a file in which nothing is wrong.
 fn fill_table<B: Body>(bytes: &[u8], table: &mut [Letter<B>], count: usize)
-    requires whole { 96 * count ≡ length bytes.now }
+    requires whole { RECORD_SIZE * count ≡ length bytes.now }
     requires places { count ≤ length table.old }
     requires right { file_fault B.form bytes.now ≡ None }
     ensures { Loaded B.form bytes.now table.old table.new (Ok count) }
@@ -68,8 +68,8 @@ pub fn save<B: Body>(letters: &[Letter<B>], out: &mut [u8]) -> Result<usize, Ref
 
 // Writes the letters' records one after another from the front on.
 fn write_all<B: Body>(letters: &[Letter<B>], out: &mut [u8])
-    requires { 96 * length letters.now ≤ length out.old }
-    ensures { out.new ≡ file_of B.form letters.now ++ drop (96 * length letters.now) out.old }
+    requires { RECORD_SIZE * length letters.now ≤ length out.old }
+    ensures { out.new ≡ file_of B.form letters.now ++ drop (RECORD_SIZE * length letters.now) out.old }
 {
     // Written by index, as above.
     for (index, letter) in letters.iter().enumerate() {

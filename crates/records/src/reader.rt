@@ -1,5 +1,6 @@
 // Reads a file of records one by one.
 ghost use Rattle.std.specs.Prelude.{◌*◌, ◌≤◌, length};
+ghost use Rattle.records.specs.declared.record.TheConstants.{RECORD_SIZE};
 
 use std::marker::PhantomData;
 
@@ -12,5 +13,5 @@ pub struct Reader<'a, B> {
     // how many records were read
     index: usize,
     body: PhantomData<B>,
-    ghost within: { 96 * index ≤ length bytes.now },
+    ghost within: { RECORD_SIZE * index ≤ length bytes.now },
 }

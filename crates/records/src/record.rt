@@ -8,13 +8,24 @@ ghost use Rattle.records.specs.Records.{body_part, is_zero, kind_byte, record_of
 
 use crate::bytes::{number_at, put};
 use crate::fault::Fault;
-use crate::stamps::{read_stamp, write_stamp};
+use crate::stamps::{STAMP_SIZE, read_stamp, write_stamp};
 use letters::body::{BODY_SPACE, Body};
 use letters::letter::Letter;
 use letters::parts::Parts;
 
 // How many bytes a record has.
 pub const RECORD_SIZE: usize = 96;
+
+// What stands where behind the stamp: the poster, the body's kind and length, a zero, and the body from its first byte on.
+const POSTER_PLACE: usize = 32;
+
+const KIND_PLACE: usize = 33;
+
+const LENGTH_PLACE: usize = 34;
+
+const ZERO_PLACE: usize = 35;
+
+const BODY_PLACE: usize = 36;
 
 // The letter's record.
 pub fn to_record<B: Body>(letter: &Letter<B>) -> [u8; RECORD_SIZE]
@@ -25,13 +36,17 @@ pub fn to_record<B: Body>(letter: &Letter<B>) -> [u8; RECORD_SIZE]
     assemble(&write_stamp(letter.stamp()), &header, &body.to_bytes())
 }
 
-fn assemble(stamp: &[u8; 32], header: &[u8; 4], body: &[u8; BODY_SPACE]) -> [u8; RECORD_SIZE]
+fn assemble(
+    stamp: &[u8; STAMP_SIZE],
+    header: &[u8; 4],
+    body: &[u8; BODY_SPACE],
+) -> [u8; RECORD_SIZE]
     ensures { result ≡ stamp.now ++ (header.now ++ body.now) }
 {
     let mut record = [0; RECORD_SIZE];
     put(&mut record, 0, stamp);
-    put(&mut record, 32, header);
-    put(&mut record, 36, body);
+    put(&mut record, POSTER_PLACE, header);
+    put(&mut record, BODY_PLACE, body);
     record
 }
 
@@ -59,7 +74,7 @@ fn read_whole<B: Body>(bytes: &[u8; RECORD_SIZE], parts: &mut Parts<B>) -> Resul
     }
     *parts = Parts {
         stamp: read_stamp(bytes),
-        poster: bytes[32],
+        poster: bytes[POSTER_PLACE],
         body: read_body(bytes),
     };
     Ok(())
@@ -71,8 +86,8 @@ fn read_body<B: Body>(bytes: &[u8; RECORD_SIZE]) -> B
     ensures kind { B.form.kind result ≡ kind_byte bytes.now }
     ensures bytes { B.form.bytes result ≡ body_part bytes.now }
 {
-    let len = bytes[34] as usize;
-    B::read(bytes[33], &bytes[36..36 + len])
+    let len = bytes[LENGTH_PLACE] as usize;
+    B::read(bytes[KIND_PLACE], &bytes[BODY_PLACE..BODY_PLACE + len])
 }
 
 // The letter of a record in which nothing is wrong.
@@ -80,7 +95,7 @@ pub(crate) fn read_letter<B: Body>(bytes: &[u8; RECORD_SIZE]) -> Letter<B>
     requires { wrong_byte B.form bytes.now ≡ None }
     ensures { record_of B.form result ≡ bytes.now }
 {
-    Letter::make(read_stamp(bytes), bytes[32], read_body(bytes))
+    Letter::make(read_stamp(bytes), bytes[POSTER_PLACE], read_body(bytes))
 }
 
 // The first wrong byte of the record at the front; where the bytes are too few for one, how many there are.
@@ -100,39 +115,42 @@ fn wrong_byte<B: Body>(bytes: &[u8; RECORD_SIZE]) -> Option<u8>
     if let Some(place) = wrong_header::<B>(bytes) {
         return Some(place);
     }
-    let len = bytes[34];
-    if let Some(place) = B::wrong(bytes[33], &bytes[36..36 + len as usize]) {
-        return Some(36 + place);
+    let len = bytes[LENGTH_PLACE];
+    if let Some(place) = B::wrong(
+        bytes[KIND_PLACE],
+        &bytes[BODY_PLACE..BODY_PLACE + len as usize],
+    ) {
+        return Some(BODY_PLACE as u8 + place);
     }
-    nonzero_from(bytes, 36 + len)
+    nonzero_from(bytes, BODY_PLACE as u8 + len)
 }
 
-// The first wrong byte of the 36 before the body.
+// The first wrong byte before the body.
 fn wrong_header<B: Body>(bytes: &[u8; RECORD_SIZE]) -> Option<u8>
     ensures { result ≡ wrong_header B.form bytes.now }
 {
-    let poster = bytes[32];
+    let poster = bytes[POSTER_PLACE];
     if poster >= 16 {
-        return Some(32);
+        return Some(POSTER_PLACE as u8);
     }
     if number_at(bytes, 2 * poster as usize) == 0 {
         return Some(2 * poster);
     }
-    if !B::has_kind(bytes[33]) {
-        return Some(33);
+    if !B::has_kind(bytes[KIND_PLACE]) {
+        return Some(KIND_PLACE as u8);
     }
-    if !B::has_length(bytes[33], bytes[34]) {
-        return Some(34);
+    if !B::has_length(bytes[KIND_PLACE], bytes[LENGTH_PLACE]) {
+        return Some(LENGTH_PLACE as u8);
     }
-    if bytes[35] != 0 {
-        return Some(35);
+    if bytes[ZERO_PLACE] != 0 {
+        return Some(ZERO_PLACE as u8);
     }
     None
 }
 
 // The first byte that is not zero, from a place on.
 fn nonzero_from(bytes: &[u8; RECORD_SIZE], from: u8) -> Option<u8>
-    requires { from ≤ 96 }
+    requires { from ≤ RECORD_SIZE }
     ensures { result ≡ first_failing is_zero from (drop from bytes.now) }
 {
     let place = first_nonzero(&bytes[from as usize..])?;

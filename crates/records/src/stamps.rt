@@ -1,4 +1,4 @@
-// Stamps as 32 bytes.
+// Stamps as bytes.
 ghost use Rattle.std.specs.Prelude.{◌≡◌, ◌≤◌, length, take};
 ghost use Rattle.records.specs.Records.{stamp_bytes};
 
@@ -6,17 +6,20 @@ use crate::bytes::number_at;
 use letters::stamp::Stamp;
 use std::array;
 
+// How many bytes a stamp has.
+pub(crate) const STAMP_SIZE: usize = 32;
+
 // The entries in order, the low byte of each first.
-pub(crate) fn write_stamp(stamp: &Stamp) -> [u8; 32]
+pub(crate) fn write_stamp(stamp: &Stamp) -> [u8; STAMP_SIZE]
     ensures { result ≡ stamp_bytes stamp.now }
 {
     array::from_fn(|at| stamp.entries[at / 2].to_le_bytes()[at % 2])
 }
 
-// The stamp that the first 32 bytes write.
+// The stamp that the first bytes write.
 pub(crate) fn read_stamp(bytes: &[u8]) -> Stamp
-    requires { 32 ≤ length bytes.now }
-    ensures { stamp_bytes result ≡ take 32 bytes.now }
+    requires { STAMP_SIZE ≤ length bytes.now }
+    ensures { stamp_bytes result ≡ take STAMP_SIZE bytes.now }
 {
     Stamp {
         entries: array::from_fn(|seat| number_at(bytes, 2 * seat)),

@@ -1,7 +1,7 @@
 // Texts as bodies of letters, and the making of a text of any bytes.
 ghost use Rattle.std.specs.Prelude.{◌≡◌, ◌≤◌, not, [], ◌++◌, length, drop, None};
 ghost use Rattle.std.specs.List.{position};
-ghost use Rattle.letters.specs.Characters.{longest_text, printable, text_wrong};
+ghost use Rattle.letters.specs.Characters.{printable, text_wrong};
 ghost use Rattle.letters.specs.Numbers.{padded};
 ghost use Rattle.letters.specs.Refusals.{told};
 ghost use Rattle.letters.specs.Texts.{text_answer, text_bytes, text_form};
@@ -35,7 +35,7 @@ impl Text {
 
     // The characters, and zeros after them.
     fn padded_chars(&self) -> [u8; LONGEST_TEXT]
-        ensures { result ≡ padded longest_text (text_bytes self.now) }
+        ensures { result ≡ padded LONGEST_TEXT (text_bytes self.now) }
     {
         self.chars
     }

@@ -3,7 +3,8 @@ use Rattle.std.proofs.lemmas.List.{drop-drop}
 use Rattle.std.specs.Slice.Iter.{chunks_rest}
 use Rattle.records.specs.Files.{begun_records, fault_among}
 use Rattle.records.specs.Readers.{left}
-use Rattle.records.specs.Records.{record_size, wrong_front}
+use Rattle.records.specs.declared.record.TheConstants.{RECORD_SIZE}
+use Rattle.records.specs.Records.{wrong_front}
 use Rattle.records.proofs.Faults.{among_right, among_wrong}
 use Rattle.records.proofs.Filing.{chunk_first, chunk_front, chunk_rest}
 use Rattle.records.proofs.file.first_fault.Goals as goal
@@ -18,8 +19,8 @@ returns-in-Some-first_wrong g c =
     let more = chunks_rest c.next.new.self.iter in
     let piece = c.in-Some.record.now in
     let is = sym inv.2 ∙ steps.0.1.0 in
-    let long = steps.0.1.1 ∙ ap (λ s. min s (length (chunks_rest c.loop-index.index-iterator.iter))) inv.3 ∙ ap (λ l. min record_size (length l)) inv.2 in
-    let some : i < begun_records bs = omega (arith, steps.0.1.2, ap length inv.2, length-drop (record_size * i) bs) in
+    let long = steps.0.1.1 ∙ ap (λ s. min s (length (chunks_rest c.loop-index.index-iterator.iter))) inv.3 ∙ ap (λ l. min RECORD_SIZE (length l)) inv.2 in
+    let some : i < begun_records bs = omega (arith, steps.0.1.2, ap length inv.2, length-drop (RECORD_SIZE * i) bs) in
     let front = ap (wrong_front form) (chunk_front (left bs i) piece more is long) ∙ chunk_first form g.met.B.Body.lawful (left bs i) in
     let byte : ℕ = c.in-Some-first_wrong.byte in
     let wrong = sym front ∙ sym c.in-Some-first_wrong.ensures in
@@ -36,12 +37,12 @@ loop-index-preserved g c =
     let more = chunks_rest c.next.new.self.iter in
     let piece = c.in-Some.record.now in
     let is = sym inv.2 ∙ steps.0.1.0 in
-    let long = steps.0.1.1 ∙ ap (λ s. min s (length (chunks_rest c.loop-index.index-iterator.iter))) inv.3 ∙ ap (λ l. min record_size (length l)) inv.2 in
-    let some : i < begun_records bs = omega (arith, steps.0.1.2, ap length inv.2, length-drop (record_size * i) bs) in
+    let long = steps.0.1.1 ∙ ap (λ s. min s (length (chunks_rest c.loop-index.index-iterator.iter))) inv.3 ∙ ap (λ l. min RECORD_SIZE (length l)) inv.2 in
+    let some : i < begun_records bs = omega (arith, steps.0.1.2, ap length inv.2, length-drop (RECORD_SIZE * i) bs) in
     let front = ap (wrong_front form) (chunk_front (left bs i) piece more is long) ∙ chunk_first form g.met.B.Body.lawful (left bs i) in
     let right = sym front ∙ sym c.in_default.ensures in
-    let size : record_size * (i + 1) ≡ record_size * i + record_size = omega arith in
-    let next : drop record_size (left bs i) ≡ left bs (i + 1) = drop-drop record_size (record_size * i) bs ∙ ap (λ n. drop n bs) (sym size) in
+    let size : RECORD_SIZE * (i + 1) ≡ RECORD_SIZE * i + RECORD_SIZE = omega arith in
+    let next : drop RECORD_SIZE (left bs i) ≡ left bs (i + 1) = drop-drop RECORD_SIZE (RECORD_SIZE * i) bs ∙ ap (λ n. drop n bs) (sym size) in
     let count = steps.2 in (
       search rules,
       search rules,

@@ -2,7 +2,7 @@ use Rattle.std.proofs.Common.{◌≡◌, ℕ, ◌*◌, ◌<◌, length, take, ap
 use Rattle.std.proofs.lemmas.List.{length-take-le}
 use Rattle.records.specs.Buffers.{overlaid}
 use Rattle.records.specs.Files.{file_of}
-use Rattle.records.specs.Records.{record_size}
+use Rattle.records.specs.declared.record.TheConstants.{RECORD_SIZE}
 use Rattle.records.proofs.Filing.{length_file, save_more}
 use Rattle.records.proofs.RoundTrip.{record_long}
 use Rattle.records.proofs.file.write_all.Goals as goal
@@ -16,9 +16,9 @@ loop-index-preserved g c =
     let m = c.index-letters-index.result in
     let inv = c.loop-index.invariant in
     let within : i < length ms = omega arith in
-    let front : length (file_of form (take i ms)) ≡ record_size * i =
-    length_file form laws (take i ms) ∙ ap (λ n. record_size * n) (length-take-le i ms (omega arith)) in
-    let written = ap (overlaid c.loop-index.out (record_size * i)) c.to_record.ensures in (
+    let front : length (file_of form (take i ms)) ≡ RECORD_SIZE * i =
+    length_file form laws (take i ms) ∙ ap (λ n. RECORD_SIZE * n) (length-take-le i ms (omega arith)) in
+    let written = ap (overlaid c.loop-index.out (RECORD_SIZE * i)) c.to_record.ensures in (
       omega (arith, c.put.auto.out, inv.0),
       c.put.ensures ∙ written ∙ save_more form ms c.args.out.now c.loop-index.out i m (record_long form laws m) front within c.index-letters-index.is inv.1,
     )

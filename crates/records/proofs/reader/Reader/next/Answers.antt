@@ -2,7 +2,8 @@ use Rattle.std.proofs.Common.{ℕ, ◌*◌, ◌<◌, List, length, sym, refl, ap
 use Rattle.std.proofs.lemmas.List.{length-drop}
 use Rattle.records.specs.Reading.{parts_left, read_answer}
 use Rattle.records.specs.Readers.{ahead, next_answer, next_index, next_parts}
-use Rattle.records.specs.Records.{record_size, wrong_front}
+use Rattle.records.specs.declared.record.TheConstants.{RECORD_SIZE}
+use Rattle.records.specs.Records.{wrong_front}
 use Rattle.records.specs.Naming.{Named}
 use Rattle.records.proofs.Finding.{found_right, found_wrong, named_byte, next_part, ok_err}
 use Rattle.records.proofs.RoundTrip.{undoes_as}
@@ -14,7 +15,7 @@ returns-in-Err g c =
     let index : ℕ = c.args.self.now.index in
     let bs : List ℕ = ahead c.args.self.now in
     let part = next_part c.args.self.now.bytes.now index in
-    let some : 0 < length bs = omega (arith, length-drop (record_size * index) c.args.self.now.bytes.now) in
+    let some : 0 < length bs = omega (arith, length-drop (RECORD_SIZE * index) c.args.self.now.bytes.now) in
     let old = c.args.parts.now in
     let new = c.read_record.new.parts in
     let told = c.in-Err.ensures in
@@ -36,7 +37,7 @@ returns-in-Ok g c =
     let index : ℕ = c.args.self.now.index in
     let bs : List ℕ = ahead c.args.self.now in
     let part = next_part c.args.self.now.bytes.now index in
-    let some : 0 < length bs = omega (arith, length-drop (record_size * index) c.args.self.now.bytes.now) in
+    let some : 0 < length bs = omega (arith, length-drop (RECORD_SIZE * index) c.args.self.now.bytes.now) in
     let old = c.args.parts.now in
     let new = c.read_record.new.parts in
     let told = c.in-Ok.ensures in
