@@ -14,6 +14,7 @@ module _ {B : Type 0} (old : Lines B) (x : Letter B) where
   pub record Sent (i : ℕ) (new : Lines B) : Type 0 where
     pub seats : new.seats ≡ old.seats
     pub size : new.size ≡ old.size
+    pub lender : new.places.ghost_name ≡ old.places.ghost_name
     pub passed : (k : ℕ) → k < i → ¬ (k ≡ x.poster) → (lines_of new).waiting k ≡ (lines_of old).waiting k ++ (x ∷ [])
     pub own : (lines_of new).waiting x.poster ≡ (lines_of old).waiting x.poster
     pub counts : (k : ℕ) → i ≤ k → get_or new.counts k 0 ≡ get_or old.counts k 0
@@ -32,6 +33,7 @@ module _ {B : Type 0} (old : Lines B) (x : Letter B) where
     sent_skip e = record {
       seats = s.seats;
       size = s.size;
+      lender = s.lender;
       passed = λ k h ne. let other : ¬ (k ≡ i) = (λ same. ne (same ∙ e)) in s.passed k (omega arith) ne;
       own = s.own;
       counts = λ k h. s.counts k (omega arith);
@@ -40,12 +42,13 @@ module _ {B : Type 0} (old : Lines B) (x : Letter B) where
     }
 
     pub sent_more : (new : Lines B) → ¬ (i ≡ x.poster) →
-        new.seats ≡ mid.seats → new.size ≡ mid.size → new.counts ≡ set mid.counts i (get_or mid.counts i 0 + 1) →
+        new.seats ≡ mid.seats → new.size ≡ mid.size → new.places.ghost_name ≡ mid.places.ghost_name → new.counts ≡ set mid.counts i (get_or mid.counts i 0 + 1) →
         (lines_of new).waiting i ≡ (lines_of mid).waiting i ++ (x ∷ []) → ((k : ℕ) → ¬ (k ≡ i) → (lines_of new).waiting k ≡ (lines_of mid).waiting k) →
         new.places.now ≡ set mid.places.now (i * mid.size + get_or mid.counts i 0) x → Sent (i + 1) new
-    sent_more new ne seats size counts grown others table = record {
+    sent_more new ne seats size lender counts grown others table = record {
       seats = seats ∙ s.seats;
       size = size ∙ s.size;
+      lender = lender ∙ s.lender;
       passed = λ k lt not_own. ⊎_elim
           (λ same. subst (λ j. (lines_of new).waiting j ≡ (lines_of old).waiting j ++ (x ∷ [])) (sym same) (grown ∙ ap (λ l. l ++ (x ∷ [])) (s.ahead i (omega arith))))
           (λ other. others k other ∙ s.passed k (omega arith) not_own)

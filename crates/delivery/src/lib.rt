@@ -1,7 +1,8 @@
 // Delivery: what one seat puts on a carrier, another draws.
 #![tactic(auto)]
 
-ghost use Rattle.std.specs.Prelude.{◌≡◌, length};
+ghost use Rattle.std.specs.Prelude.{◌≡◌, OnOk, length, replicate};
+ghost use Rattle.carriers.specs.Lines.{put_places};
 ghost use Rattle.std.specs.Result.{OnErr};
 ghost use Rattle.letters.specs.Letters.{parts_of};
 ghost use Rattle.letters.specs.Refusals.{told};
@@ -55,6 +56,7 @@ pub fn over_lines<B: Body>(
     ensures answer { told (λ u. u) result ≡ delivery_answer seats size (length places.old) letter.now.poster seat }
     ensures filled { parts.new ≡ parts_by (delivery_answer seats size (length places.old) letter.now.poster seat) (parts_of letter.now) parts.old }
     ensures kept { OnErr result (places.new ≡ places.old) }
+    ensures table { OnOk result (places.new ≡ put_places size (replicate 16 0) letter.now.poster letter.now places.old seats) }
 {
     Lines::check(places, seats, size)?;
     // What lines refuse is refused before they are lent the letters.
@@ -66,12 +68,14 @@ pub fn over_lines<B: Body>(
         return Err(Refusal::UnknownPlace);
     }
     let mut lines = Lines::new(places, seats, size);
-    put_and_draw(&mut lines, letter, seat, parts)
+    let _ = lines.put(letter);
+    lines.draw(seat, 0, parts)
 }
 
 #[cfg(test)]
 mod tests {
-    use crate::over_lines;
+    use crate::{over_lines, put_and_draw};
+    use carriers::lines::Lines;
     use letters::job::Job;
     use letters::letter::Letter;
     use letters::parts::Parts;
@@ -115,7 +119,8 @@ mod tests {
             poster: 9,
             body: Job::Add(0),
         };
-        assert!(rt; over_lines(&mut places, 3, 2, &letter, 1, &mut parts).is_ok());
+        let mut lines = Lines::new(&mut places, 3, 2);
+        assert!(rt; put_and_draw(&mut lines, &letter, 1, &mut parts).is_ok());
         assert_eq!(rt; parts.poster, 2);
         assert!(rt; matches!(parts.body, Job::Add(7)));
         Ok(())

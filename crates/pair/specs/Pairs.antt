@@ -23,6 +23,10 @@ both m n = cond (m.seats == n.seats) (joined m n) m
 abbrev pub Rested : {C : Type 0} → (C → C → Type 0) → C → C → Type 0
 Rested rests c after = (after ≡ c) ⊎ rests c after
 
+-- what a refused draw leaves of the two: one of them refused it, and the other is as it was
+abbrev pub OneRests : {C D : Type 0} → (C → C → Type 0) → (D → D → Type 0) → C → C → D → D → Type 0
+OneRests rests rests' c c' d d' = (rests c c' × (d' ≡ d)) ⊎ ((c' ≡ c) × rests' d d')
+
 module _ {L : Type 0} where
   -- the place is the first's, which was drawn from; or it is behind those, and the second was. The other is as it was.
   abbrev pub DrawnFrom : Meaning L → Meaning L → ℕ → ℕ → Meaning L → Meaning L → Type 0

@@ -7,7 +7,7 @@ ghost use Rattle.letters.specs.Refusals.{told};
 ghost use Rattle.letters.specs.Letters.{parts_of};
 ghost use Rattle.carriers.specs.Meaning.{DrawLeaves, PutLeaves, draw_answer, put_answer};
 ghost use Rattle.pair.specs.PairLaws.{lawful_both, still_both};
-ghost use Rattle.pair.specs.Pairs.{DrawsOne, Rested, both, pair_answer};
+ghost use Rattle.pair.specs.Pairs.{DrawsOne, OneRests, Rested, both, pair_answer};
 
 use carriers::carrier::Carrier;
 use letters::letter::Letter;
@@ -82,6 +82,7 @@ impl<C: Carrier, D: Carrier<Body = C::Body>> Carrier for Pair<C, D> {
         ensures once { OnOk result (C.Carrier.puts self.old.first letter.now self.new.first × D.Carrier.puts self.old.second letter.now self.new.second) }
         ensures first { PutLeaves result (C.Carrier.meaning self.old.first) letter.now.poster letter.now (C.Carrier.meaning self.new.first) }
         ensures second { PutLeaves result (D.Carrier.meaning self.old.second) letter.now.poster letter.now (D.Carrier.meaning self.new.second) }
+        ensures untouched { OnErr result (self.new ≡ self.old) }
         ensures rests { OnErr result (Rested C.Carrier.rests self.old.first self.new.first × Rested D.Carrier.rests self.old.second self.new.second × (self.new.seats ≡ self.old.seats)) }
     {
         let poster = letter.poster();
@@ -99,6 +100,7 @@ impl<C: Carrier, D: Carrier<Body = C::Body>> Carrier for Pair<C, D> {
         ensures answer { told (λ u. u) result ≡ draw_answer (both (C.Carrier.meaning self.old.first) (D.Carrier.meaning self.old.second)) seat place }
         ensures leaves { DrawLeaves parts_of result (both (C.Carrier.meaning self.old.first) (D.Carrier.meaning self.old.second)) seat place (both (C.Carrier.meaning self.new.first) (D.Carrier.meaning self.new.second)) parts.old parts.new }
         ensures one { DrawsOne result (C.Carrier.meaning self.old.first) (D.Carrier.meaning self.old.second) seat place (C.Carrier.meaning self.new.first) (D.Carrier.meaning self.new.second) }
+        ensures asked { OnErr result (OneRests C.Carrier.rests D.Carrier.rests self.old.first self.new.first self.old.second self.new.second) }
         ensures rests { OnErr result (Rested C.Carrier.rests self.old.first self.new.first × Rested D.Carrier.rests self.old.second self.new.second × (self.new.seats ≡ self.old.seats)) }
     {
         let ahead = self.first.waits(seat);

@@ -11,7 +11,8 @@ use Rattle.letters.specs.Same.{same_letter}
 use Rattle.records.specs.declared.fault.Fault.{Fault}
 use Rattle.records.specs.Faults.{fault_reason}
 use Rattle.records.specs.Reading.{Undoes, read_answer}
-use Rattle.records.specs.Records.{record_of, record_size, wrong_byte, wrong_front}
+use Rattle.records.specs.declared.record.TheConstants.{RECORD_SIZE}
+use Rattle.records.specs.Records.{record_of, wrong_byte, wrong_front}
 use Rattle.records.proofs.Finding.{answered_wrong}
 use Rattle.records.proofs.RoundTrip.{front_whole, record_right, written_back}
 use Rattle.spool.specs.Decoding.{blank_letter, letter_of, letter_or, letter_parts, letter_read}
@@ -41,9 +42,9 @@ module _ {B : Type 0} (blank : B) where
     pub letter_back : (m : Letter B) → letter_of form blank (record_of form m) ≡ m
     letter_back m = read_is m _ _ (record_right form laws m) (written_back form laws (parts_of m) m.sized)
 
-    module _ (bs : List ℕ) (long : length bs ≡ record_size) where
-      whole : take record_size bs ≡ bs
-      whole = take_all record_size bs (omega arith)
+    module _ (bs : List ℕ) (long : length bs ≡ RECORD_SIZE) where
+      whole : take RECORD_SIZE bs ≡ bs
+      whole = take_all RECORD_SIZE bs (omega arith)
 
       -- what a read that is accepted fills
       pub letter_read_right : {A : Type 0} (filled : Parts B) → Undoes form bs A filled → A → filled ≡ parts_of (letter_of form blank bs)

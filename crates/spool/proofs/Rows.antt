@@ -9,25 +9,26 @@ use Rattle.std.specs.Option.{option_map, unwrap_or}
 use Rattle.std.specs.Result.{result_unwrap_or}
 use Rattle.std.specs.Simd.{first_chunks}
 use Rattle.spool.specs.Masks.{marked}
-use Rattle.spool.specs.Rows.{marks_at, mask_of, picks, row_at, row_size}
+use Rattle.spool.specs.declared.tape.TheConstants.{ROW_SIZE}
+use Rattle.spool.specs.Rows.{marks_at, mask_of, picks, row_at}
 use Rattle.spool.proofs.Picks.{picks_yes, picks_not}
 
-pub take_rows : (c k : ℕ) (bs : List ℕ) → c ≤ k → take c (first_chunks row_size k bs) ≡ first_chunks row_size c bs
+pub take_rows : (c k : ℕ) (bs : List ℕ) → c ≤ k → take c (first_chunks ROW_SIZE k bs) ≡ first_chunks ROW_SIZE c bs
 take_rows zero k bs h = refl
 take_rows (suc c) zero bs h = absurd (omega arith)
-take_rows (suc c) (suc k) bs h = ap (λ l. take row_size bs ∷ l) (take_rows c k (drop row_size bs) (omega arith))
+take_rows (suc c) (suc k) bs h = ap (λ l. take ROW_SIZE bs ∷ l) (take_rows c k (drop ROW_SIZE bs) (omega arith))
 
-pub length_rows : (k : ℕ) (bs : List ℕ) → length (first_chunks row_size k bs) ≡ k
+pub length_rows : (k : ℕ) (bs : List ℕ) → length (first_chunks ROW_SIZE k bs) ≡ k
 length_rows zero bs = refl
-length_rows (suc k) bs = ap suc (length_rows k (drop row_size bs))
+length_rows (suc k) bs = ap suc (length_rows k (drop ROW_SIZE bs))
 
-pub row_is : (k : ℕ) (bs : List ℕ) (r : ℕ) → r < k → get_or (first_chunks row_size k bs) r [] ≡ row_at bs r
+pub row_is : (k : ℕ) (bs : List ℕ) (r : ℕ) → r < k → get_or (first_chunks ROW_SIZE k bs) r [] ≡ row_at bs r
 row_is zero bs r h = absurd (omega arith)
 row_is (suc k) bs zero h = refl
 row_is (suc k) bs (suc r) h =
-    let size : suc r * row_size ≡ row_size + r * row_size = omega arith in
-    row_is k (drop row_size bs) r (omega arith)
-    ∙ ap (take row_size) (drop-drop (r * row_size) row_size bs ∙ ap (λ n. drop n bs) (sym size))
+    let size : suc r * ROW_SIZE ≡ ROW_SIZE + r * ROW_SIZE = omega arith in
+    row_is k (drop ROW_SIZE bs) r (omega arith)
+    ∙ ap (take ROW_SIZE) (drop-drop (r * ROW_SIZE) ROW_SIZE bs ∙ ap (λ n. drop n bs) (sym size))
 
 -- what stands at a place of the numbered rows that pass a test
 module _ (p : List ℕ → Bool) where
@@ -86,7 +87,7 @@ module _ (p : List ℕ → Bool) where
   ]
 
 -- the mask of a row that is lent, and a test of it, are those of the row at its number
-module _ (count : ℕ) (bs : List ℕ) (lent : List (List ℕ)) (is : lent ≡ first_chunks row_size count bs) where
+module _ (count : ℕ) (bs : List ℕ) (lent : List (List ℕ)) (is : lent ≡ first_chunks ROW_SIZE count bs) where
   pub all_lent : length lent ≡ count
   all_lent = ap length is ∙ length_rows count bs
 

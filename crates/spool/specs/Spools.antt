@@ -9,8 +9,10 @@ use Rattle.spool.specs.declared.Spool.{Spool}
 use Rattle.spool.specs.Decoding.{letter_of}
 use Rattle.spool.specs.Masks.{all_but}
 use Rattle.records.specs.Buffers.{overlaid}
-use Rattle.records.specs.Records.{record_of, record_size}
-use Rattle.spool.specs.Rows.{letters_at, mask_of, marks_at, picks, record_part, row_at, row_fits, row_size}
+use Rattle.records.specs.declared.record.TheConstants.{RECORD_SIZE}
+use Rattle.records.specs.Records.{record_of}
+use Rattle.spool.specs.declared.tape.TheConstants.{ROW_SIZE}
+use Rattle.spool.specs.Rows.{letters_at, mask_of, marks_at, picks, record_part, row_at, row_fits}
 
 -- a seat's list is the rows with its bit, in row order; a letter fits where one more whole row has place
 abbrev pub spool_meaning : {L : Type 0} → (List ℕ → L) → ℕ → ℕ → List ℕ → Meaning L
@@ -42,7 +44,7 @@ abbrev pub bytes_after : {B : Type 0} → Form B → Spool B → Letter B → Li
 bytes_after form s m =
     cond (count_ones (all_but s.seats m.poster) == 0)
     s.tape.bytes.now
-    (overlaid s.tape.bytes.now (s.rows * row_size) (record_of form m ++ bytes_of_16 (all_but s.seats m.poster)))
+    (overlaid s.tape.bytes.now (s.rows * ROW_SIZE) (record_of form m ++ bytes_of_16 (all_but s.seats m.poster)))
 
 -- what an accepted put does to the rows: those that were there stay, and a new one is the letter's record with the full mask
 -- less the poster's bit
@@ -63,13 +65,13 @@ RowStruck true s row seat after =
     (after.rows + 1 ≡ s.rows)
     × ((r : ℕ) → r < row → row_at after.tape.bytes.now r ≡ row_at s.tape.bytes.now r)
     × ((r : ℕ) → row ≤ r → r + 1 < s.rows → row_at after.tape.bytes.now r ≡ row_at s.tape.bytes.now (r + 1))
-    × (after.tape.bytes.now ≡ copy_within s.tape.bytes.now ((row + 1) * row_size) (s.rows * row_size) (row * row_size))
+    × (after.tape.bytes.now ≡ copy_within s.tape.bytes.now ((row + 1) * ROW_SIZE) (s.rows * ROW_SIZE) (row * ROW_SIZE))
 RowStruck false s row seat after =
     (after.rows ≡ s.rows)
     × ((r : ℕ) → ¬ (r ≡ row) → row_at after.tape.bytes.now r ≡ row_at s.tape.bytes.now r)
     × (record_part (row_at after.tape.bytes.now row) ≡ record_part (row_at s.tape.bytes.now row))
     × (mask_of (row_at after.tape.bytes.now row) ≡ bit_xor (mask_of (row_at s.tape.bytes.now row)) (2 ^ seat))
-    × (after.tape.bytes.now ≡ overlaid s.tape.bytes.now (row * row_size + record_size) (bytes_of_16 (bit_xor (mask_of (row_at s.tape.bytes.now row)) (2 ^ seat))))
+    × (after.tape.bytes.now ≡ overlaid s.tape.bytes.now (row * ROW_SIZE + RECORD_SIZE) (bytes_of_16 (bit_xor (mask_of (row_at s.tape.bytes.now row)) (2 ^ seat))))
 
 -- the ones that are left in its mask decide it
 abbrev pub StrikesRow : {B : Type 0} → Spool B → ℕ → ℕ → Spool B → Type 0

@@ -42,7 +42,7 @@ impl<'a, B: Stored> Spool<'a, B> {
         requires { spool_answer seats (length buffer.old) ≡ Ok tt }
         ensures seats { result.seats ≡ seats }
         ensures empty { Empty (spool_of B.form B.blank result) }
-        ensures buffer { result.tape.bytes.now ≡ buffer.old }
+        ensures buffer { (result.tape.bytes.now ≡ buffer.old) × (result.tape.bytes.ghost_name ≡ buffer.entry.ghost_name) }
     {
         Spool {
             tape: Tape { bytes: buffer },
@@ -72,6 +72,7 @@ impl<'a, B: Stored> Spool<'a, B> {
         ensures lists { Drawn (spool_of B.form B.blank self.old) seat (place_of B.form B.blank self.old seat row) (spool_of B.form B.blank self.new) }
         ensures row { StrikesRow self.old row seat self.new }
         ensures long { length self.new.tape.bytes.now ≡ length self.old.tape.bytes.now }
+        ensures lender { self.new.tape.bytes.ghost_name ≡ self.old.tape.bytes.ghost_name }
     {
         let left = mask_of(&self.tape.rows(self.rows)[row]) ^ (1 << seat);
         if is_done(left) {
@@ -138,6 +139,7 @@ impl<'a, B: Stored> Carrier for Spool<'a, B> {
         ensures once { OnOk result (Appends (spool_of B.form B.blank self.old) letter.now.poster letter.now (spool_of B.form B.blank self.new)) }
         ensures row { AddsRow B.form result self.old letter.now self.new }
         ensures long { length self.new.tape.bytes.now ≡ length self.old.tape.bytes.now }
+        ensures lender { self.new.tape.bytes.ghost_name ≡ self.old.tape.bytes.ghost_name }
         ensures rests { OnErr result (self.new ≡ self.old) }
     {
         let poster = letter.poster();
@@ -161,6 +163,7 @@ impl<'a, B: Stored> Carrier for Spool<'a, B> {
         ensures leaves { DrawLeaves parts_of result (spool_of B.form B.blank self.old) seat place (spool_of B.form B.blank self.new) parts.old parts.new }
         ensures row { DrawsRow B.form B.blank result self.old seat place self.new }
         ensures long { length self.new.tape.bytes.now ≡ length self.old.tape.bytes.now }
+        ensures lender { self.new.tape.bytes.ghost_name ≡ self.old.tape.bytes.ghost_name }
         ensures rests { OnErr result (self.new ≡ self.old) }
     {
         if seat >= self.seats {

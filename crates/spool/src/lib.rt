@@ -2,7 +2,8 @@
 #![tactic(auto)]
 
 ghost use Rattle.std.specs.Prelude.{ℕ, ◌*◌, ◌^◌, ◌<◌, ◌≤◌, length};
-ghost use Rattle.spool.specs.Rows.{mask_of, row_at, row_size};
+ghost use Rattle.spool.specs.declared.tape.TheConstants.{ROW_SIZE};
+ghost use Rattle.spool.specs.Rows.{mask_of, row_at};
 
 use crate::tape::Tape;
 use std::marker::PhantomData;
@@ -22,8 +23,8 @@ pub struct Spool<'a, B> {
     body: PhantomData<B>,
     ghost some: { 1 ≤ seats },
     ghost few: { seats ≤ 16 },
-    ghost spacious: { row_size ≤ length tape.bytes.now },
-    ghost whole: { rows * row_size ≤ length tape.bytes.now },
+    ghost spacious: { ROW_SIZE ≤ length tape.bytes.now },
+    ghost whole: { rows * ROW_SIZE ≤ length tape.bytes.now },
     ghost wanted: { (r : ℕ) → r < rows → 0 < mask_of (row_at tape.bytes.now r) },
     ghost seated: { (r : ℕ) → r < rows → mask_of (row_at tape.bytes.now r) < 2 ^ seats },
 }

@@ -31,10 +31,11 @@ pub(crate) fn marks(mask: u16, seat: u8) -> bool
     (mask >> seat) & 1 == 1
 }
 
-// Whether no seat has yet to draw.
+// Whether no seat has yet to draw: the ones in a mask are as many as the seats that have.
 pub(crate) fn is_done(mask: u16) -> bool
     ensures ones { result ≡ (count_ones mask == 0) }
-    ensures seats { result ≡ (seats_marked mask 16 == 0) }
+    ensures seats { count_ones mask ≡ seats_marked mask 16 }
+    ensures none { result ≡ (seats_marked mask 16 == 0) }
 {
     mask.count_ones() == 0
 }

@@ -38,6 +38,7 @@ impl<'a, B: Body> Lines<'a, B> {
         ensures size { result.size ≡ size }
         ensures empty { Empty (lines_of result) }
         ensures table { result.places.now ≡ places.old }
+        ensures lender { result.places.ghost_name ≡ places.entry.ghost_name }
     {
         Lines {
             places,
@@ -63,6 +64,7 @@ impl<'a, B: Body> Lines<'a, B> {
         ensures own { (lines_of self.new).waiting seat ≡ (lines_of self.old).waiting seat ++ (letter.now ∷ []) }
         ensures others { (k : ℕ) → ¬ (k ≡ seat) → (lines_of self.new).waiting k ≡ (lines_of self.old).waiting k }
         ensures table { self.new.places.now ≡ slice_set self.old.places.now (seat * self.old.size + slice_index self.old.counts seat) letter.now }
+        ensures lender { self.new.places.ghost_name ≡ self.old.places.ghost_name }
     {
         let at = seat as usize;
         let count = self.counts[at];
@@ -79,6 +81,7 @@ impl<'a, B: Body> Lines<'a, B> {
         ensures lists { Drawn (lines_of self.old) seat place (lines_of self.new) }
         ensures taken { result ≡ slice_index_or ((lines_of self.old).waiting seat) place result }
         ensures table { self.new.places.now ≡ table_drawn self.old seat place }
+        ensures lender { self.new.places.ghost_name ≡ self.old.places.ghost_name }
     {
         let at = seat as usize;
         let count = self.counts[at];
@@ -128,6 +131,7 @@ impl<'a, B: Body> Carrier for Lines<'a, B> {
         ensures leaves { PutLeaves result (lines_of self.old) letter.now.poster letter.now (lines_of self.new) }
         ensures once { OnOk result (Appends (lines_of self.old) letter.now.poster letter.now (lines_of self.new)) }
         ensures table { OnOk result (self.new.places.now ≡ table_put self.old letter.now) }
+        ensures lender { self.new.places.ghost_name ≡ self.old.places.ghost_name }
         ensures size { self.new.size ≡ self.old.size }
         ensures rests { OnErr result (self.new ≡ self.old) }
     {
@@ -151,6 +155,7 @@ impl<'a, B: Body> Carrier for Lines<'a, B> {
         ensures answer { told (λ u. u) result ≡ draw_answer (lines_of self.old) seat place }
         ensures leaves { DrawLeaves parts_of result (lines_of self.old) seat place (lines_of self.new) parts.old parts.new }
         ensures table { OnOk result (self.new.places.now ≡ table_drawn self.old seat place) }
+        ensures lender { self.new.places.ghost_name ≡ self.old.places.ghost_name }
         ensures size { self.new.size ≡ self.old.size }
         ensures rests { OnErr result (self.new ≡ self.old) }
     {

@@ -22,5 +22,6 @@ returns g c =
       once = once_both _ _ _ _ (one.answer ∙ put_ok m c.args.letter.now.poster (omega arith) fits₁) one.once two.once;
       first = both.2;
       second = two.leaves;
+      untouched = on_no _ _ (two.answer ∙ put_ok n c.args.letter.now.poster (omega arith) fits₂);
       rests = on_no _ _ (two.answer ∙ put_ok n c.args.letter.now.poster (omega arith) fits₂);
     }

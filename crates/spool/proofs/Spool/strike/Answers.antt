@@ -2,7 +2,9 @@ use Rattle.std.proofs.Common.{◌≡◌, ◌+◌, ◌*◌, ◌%◌, ◌^◌, ◌
 use lib.Bits.{bit_xor}
 use Rattle.std.proofs.lemmas.Bool.{eqb-false, eqb-true}
 use Rattle.letters.specs.Numbers.{bytes_of_16}
+use Rattle.records.specs.declared.record.TheConstants.{RECORD_SIZE}
 use Rattle.records.specs.Buffers.{overlaid}
+use Rattle.spool.specs.declared.tape.TheConstants.{ROW_SIZE}
 use Rattle.spool.specs.Decoding.{letter_of}
 use Rattle.spool.specs.Rows.{mask_of, row_at}
 use Rattle.spool.proofs.Bits.{ones_some, ones_none}
@@ -34,7 +36,7 @@ invariant_of-self g c =
     record {
       some = s.some;
       few = s.few;
-      spacious = subst (λ n. 98 ≤ n) (sym e.long) s.spacious;
+      spacious = subst (λ n. ROW_SIZE ≤ n) (sym e.long) s.spacious;
       whole = omega (arith, e.long, s.whole, c.requires.row);
       wanted = each_closed (λ m. 0 < m) s.rows b a s.wanted c.args.row e.before e.behind;
       seated = each_closed (λ m. m < 2 ^ s.seats) s.rows b a s.seated c.args.row e.before e.behind;
@@ -56,7 +58,7 @@ invariant_of-self-else-is_done g c =
     record {
       some = s.some;
       few = s.few;
-      spacious = subst (λ n. 98 ≤ n) (sym e.long) s.spacious;
+      spacious = subst (λ n. ROW_SIZE ≤ n) (sym e.long) s.spacious;
       whole = omega (arith, e.long, s.whole);
       wanted = each_written (λ m. 0 < m) s.rows b a s.wanted i s.rows same (omega arith) (λ l. absurd (omega arith)) some;
       seated = each_written (λ m. m < 2 ^ s.seats) s.rows b a s.seated i s.rows same (omega arith) (λ l. absurd (omega arith)) few;
@@ -113,4 +115,4 @@ returns-else-is_done-clause-row g c =
     let cut = lent_mask s.rows b _ c.rows.ensures i c.mask_of.result c.requires.row c.mask_of.ensures in
     let turned : bit_xor c.mask_of.result ((1 * 2 ^ seat) % 65536) ≡ bit_xor (mask_of (row_at b i)) (2 ^ seat) = turned_bit c.mask_of.result (mask_of (row_at b i)) seat cut (omega (arith, s.few, c.requires.seat)) in
     let some : false ≡ (count_ones (bit_xor (mask_of (row_at b i)) (2 ^ seat)) == 0) = sym c.if-is_done.false ∙ c.is_done.ensures.ones ∙ ap (λ m. count_ones m == 0) turned in
-    struck s i seat _ false some (refl, kept_rows b a i e.only, e.letter, e.mask ∙ turned, e.bytes ∙ ap (λ m. overlaid b (i * 98 + 96) (bytes_of_16 m)) turned)
+    struck s i seat _ false some (refl, kept_rows b a i e.only, e.letter, e.mask ∙ turned, e.bytes ∙ ap (λ m. overlaid b (i * ROW_SIZE + RECORD_SIZE) (bytes_of_16 m)) turned)

@@ -3,6 +3,8 @@ use lib.Count.{ones}
 use Rattle.std.proofs.lemmas.Bool.{and_parts, cond-false, cond-true, eqb-false, eqb-true, leb-true}
 use Rattle.carriers.proofs.Appended.{put_appended}
 use Rattle.std.proofs.lemmas.Grind.{common_steps}
+use Rattle.records.specs.declared.record.TheConstants.{RECORD_SIZE}
+use Rattle.spool.specs.declared.tape.TheConstants.{ROW_SIZE}
 use Rattle.spool.specs.Decoding.{letter_of}
 use Rattle.spool.specs.Masks.{all_but}
 use Rattle.letters.specs.Numbers.{bytes_of_16}
@@ -27,7 +29,7 @@ invariant_of-self g c =
     let poster = c.poster-poster.result in
     let mask = c.all_but-mask.result in
     let long : length a ≡ length b = c.set_mask.ensures.long ∙ c.write.ensures.long in
-    let room : s.rows * 98 + 98 ≤ length b = leb-true _ _ (and_parts (ltb poster s.seats) (row_fits s.rows (length b)) (sym c.fits.ensures ∙ c.if-not-fits.false)).1 in
+    let room : s.rows * ROW_SIZE + ROW_SIZE ≤ length b = leb-true _ _ (and_parts (ltb poster s.seats) (row_fits s.rows (length b)) (sym c.fits.ensures ∙ c.if-not-fits.false)).1 in
     let is : mask_of (row_at a s.rows) ≡ mask = c.set_mask.ensures.mask in
     let some : 0 < mask = ones_some _ (eqb-false _ _ (sym c.is_done.ensures.ones ∙ c.if-not-is_done.true)) in
     let few : mask < 2 ^ s.seats = subst (λ m. m < 2 ^ s.seats) (sym c.all_but-mask.ensures) (but_below s.seats poster c.if-poster-self.false) in
@@ -35,7 +37,7 @@ invariant_of-self g c =
     record {
       some = s.some;
       few = s.few;
-      spacious = subst (λ n. 98 ≤ n) (sym long) s.spacious;
+      spacious = subst (λ n. ROW_SIZE ≤ n) (sym long) s.spacious;
       whole = omega (arith, long, room);
       wanted = each_written (λ m. 0 < m) s.rows b a s.wanted s.rows (s.rows + 1) same (omega arith) (λ l. refl) (subst (λ m. 0 < m) (sym is) some);
       seated = each_written (λ m. m < 2 ^ s.seats) s.rows b a s.seated s.rows (s.rows + 1) same (omega arith) (λ l. refl) (subst (λ m. m < 2 ^ s.seats) (sym is) few);
@@ -58,12 +60,12 @@ returns-then-not-is_done g c =
     (λ r l. kept_rows mid a s.rows c.set_mask.ensures.only r (omega arith) ∙ kept_rows b mid s.rows c.write.ensures.only r (omega arith))
     (c.set_mask.ensures.mask ∙ mask_is)
     (ap read (c.set_mask.ensures.letter ∙ c.write.ensures.letter) ∙ letter_back blank form g.met.B.Body.lawful x) in
-    let room : s.rows * 98 + 98 ≤ length b = leb-true _ _ (and_parts (ltb c.poster-poster.result s.seats) (row_fits s.rows (length b)) (sym c.fits.ensures ∙ c.if-not-fits.false)).1 in
+    let room : s.rows * ROW_SIZE + ROW_SIZE ≤ length b = leb-true _ _ (and_parts (ltb c.poster-poster.result s.seats) (row_fits s.rows (length b)) (sym c.fits.ensures ∙ c.if-not-fits.false)).1 in
     let whole : a ≡ bytes_after form s x =
     c.set_mask.ensures.bytes
-    ∙ ap (λ l. overlaid l (s.rows * 98 + 96) (bytes_of_16 c.all_but-mask.result)) c.write.ensures.bytes
-    ∙ overlaid_behind b (record_of form x) (bytes_of_16 c.all_but-mask.result) (s.rows * 98) 96 (omega (arith, room)) (record_long form g.met.B.Body.lawful x)
-    ∙ ap (λ k. overlaid b (s.rows * 98) (record_of form x ++ bytes_of_16 k)) mask_is
+    ∙ ap (λ l. overlaid l (s.rows * ROW_SIZE + RECORD_SIZE) (bytes_of_16 c.all_but-mask.result)) c.write.ensures.bytes
+    ∙ overlaid_behind b (record_of form x) (bytes_of_16 c.all_but-mask.result) (s.rows * ROW_SIZE) RECORD_SIZE (omega (arith, room)) (record_long form g.met.B.Body.lawful x)
+    ∙ ap (λ k. overlaid b (s.rows * ROW_SIZE) (record_of form x ++ bytes_of_16 k)) mask_is
     ∙ sym (cond-false (eqb (ones (all_but s.seats x.poster)) 0) b _ (ap (λ k. eqb (ones k) 0) (sym mask_is) ∙ sym c.is_done.ensures.ones ∙ c.if-not-is_done.true)) in
     record {
       answer = search rules;
@@ -78,6 +80,7 @@ returns-then-not-is_done g c =
         whole,
       );
       long = c.set_mask.ensures.long ∙ c.write.ensures.long;
+      lender = c.set_mask.ensures.lender ∙ c.write.ensures.lender;
       rests = tt;
     }
 
@@ -100,5 +103,6 @@ returns-else-not-is_done g c =
       once = exact;
       row = (grind (arith, common_steps), λ r l. refl, λ r low high. absurd (omega arith), sym (cond-true (eqb (ones (all_but s.seats x.poster)) 0) b _ (ap (λ k. eqb (ones k) 0) (sym mask_is) ∙ sym c.is_done.ensures.ones ∙ c.if-not-is_done.false)));
       long = refl;
+      lender = refl;
       rests = tt;
     }

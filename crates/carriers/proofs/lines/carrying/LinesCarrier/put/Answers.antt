@@ -28,7 +28,7 @@ loop-other-preserved g c =
       | then-other-poster w ↦
           let e = w.append.ensures in
           subst (λ (s : Lines g.row.B.Denot). Sent old x (seat + 1) s) (sym w.self-is)
-          (sent_more old x seat mid c.loop-other.invariant w.append.new.self (λ same. w.if-other-poster.true (same ∙ sym c.poster-poster.ensures)) e.seats e.size e.counts e.own e.others e.table)
+          (sent_more old x seat mid c.loop-other.invariant w.append.new.self (λ same. w.if-other-poster.true (same ∙ sym c.poster-poster.ensures)) e.seats e.size e.lender e.counts e.own e.others e.table)
       | else-other-poster w ↦
           subst (λ (s : Lines g.row.B.Denot). Sent old x (seat + 1) s) (sym w.self-is)
           (sent_skip old x seat mid c.loop-other.invariant (w.if-other-poster.false ∙ c.poster-poster.ensures))
@@ -48,3 +48,6 @@ pub returns-clause-table : goal.returns-clause-table
 returns-clause-table g c =
     sent_table c.args.self.now c.args.letter.now c.loop-other.other c.loop-other.self c.loop-other.invariant
     (omega (arith, c.loop-other.auto.other-end, c.loop-other-test.false))
+
+pub returns-clause-lender : goal.returns-clause-lender
+returns-clause-lender g c = c.loop-other.invariant.lender
