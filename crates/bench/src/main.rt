@@ -213,20 +213,12 @@ impl<B: Body, C: Carrier<Body = B>> Desk<'_, B, C> {
     }
 }
 
-// A room of this quota, opened over the carrier.
-fn open<B: Body, C: Carrier<Body = B>>(
-    logs: &[Letter<B>],
-    holds: &[Letter<B>],
-    carrier: &C,
-    quota: u16,
-) -> Result<Room, Refusal> {
-    Draft::check(quota)?;
-    let mut draft = Draft::new(7, quota);
+// Enrols a box for each seat. A name is the value itself.
+fn enrol_all(draft: &mut Draft) -> Result<(), Refusal> {
     for name in 100..100 + SEATS as u32 {
         draft.enrol(name)?;
     }
-    draft.check_open(logs, holds, carrier)?;
-    Ok(draft.open(logs, holds, carrier))
+    Ok(())
 }
 
 // Does so many parts over the carrier.
@@ -243,7 +235,11 @@ fn work_over<B: Body, C: Carrier<Body = B> + Drop, K: Sheet<Body = B>>(
     let mut holds = vec![in rt.alloc(); blank; places]?;
     let mut tally = Tally::default();
     if setting.parts > 0 {
-        let room = open(&logs, &holds, &carrier, setting.quota)?;
+        Draft::check(setting.quota)?;
+        let mut draft = Draft::new(7, setting.quota);
+        enrol_all(&mut draft)?;
+        draft.check_open(&logs, &holds, &carrier)?;
+        let room = draft.open(&logs, &holds, &carrier);
         tally.seats = carrier.seats() as u32;
         let mut desk = Desk {
             room,

@@ -108,7 +108,7 @@ module _ {B : Type 0} (N Q : ℕ) where
             (λ (e : k ≡ m). subst (λ (x : Letter B). (w.box s).clock x.poster < number_of x) (sym e)
             (let n : ¬ (number_of m ≤ (w.box s).clock m.poster) = λ l. fresh (covered l) in omega arith))
             (in_last_cases m (w.box s).hold i);
-        once = apart_last SameLetter same_turned m (w.box s).hold (ok s).once (λ y i e. fresh (among_held y i (same_turned y m e)));
+        once = apart_last SameLetter m (w.box s).hold (ok s).once (λ y i e. fresh (among_held y i (same_turned y m e)));
       }
 
       go : Outcome N Q s m (w.box s) (w'.box s) → HoldOk ls (w'.box s).clock (w'.box s).hold

@@ -109,14 +109,6 @@ module _ {A : Type 0} (R : A → A → Type 0) where
   apart_below x [] b p y i = p.0 y i
   apart_below x (z ∷ a) b p y i = apart_below x a b p.1 y i
 
-module _ {A : Type 0} (R : A → A → Type 0) (turn : (x y : A) → R x y → R y x) where
-  pub apart_cut : (x : A) (a b : List A) → Apart R (a ++ (x ∷ b)) → Apart R (a ++ b) × ((y : A) → y ∈ (a ++ b) → ¬ (R x y))
-  apart_cut x a b p = (
-    apart_less R x a b p,
-    λ y i r. ⊎_elim
-        (λ (j : y ∈ a). apart_above R x a b p y j (turn x y r)) (λ (j : y ∈ b). apart_below R x a b p y j r) (in_either a b i),
-  )
-
   pub apart_last : (x : A) (l : List A) → Apart R l → ((y : A) → y ∈ l → ¬ (R y x)) → Apart R (l ++ (x ∷ []))
   apart_last x [] p new = (λ y i. absurd (in_none i), tt)
   apart_last x (z ∷ l) p new = (λ y i r. go y r (in_last_cases x l i), apart_last x l p.1 (λ y j. new y (there j)))
@@ -124,3 +116,11 @@ module _ {A : Type 0} (R : A → A → Type 0) (turn : (x y : A) → R x y → R
       go : (y : A) → R z y → (y ∈ l) ⊎ (y ≡ x) → ⊥
       go y r (inl j) = p.0 y j r
       go y r (inr e) = new z (here refl) (subst (λ (u : A). R z u) e r)
+
+module _ {A : Type 0} (R : A → A → Type 0) (turn : (x y : A) → R x y → R y x) where
+  pub apart_cut : (x : A) (a b : List A) → Apart R (a ++ (x ∷ b)) → Apart R (a ++ b) × ((y : A) → y ∈ (a ++ b) → ¬ (R x y))
+  apart_cut x a b p = (
+    apart_less R x a b p,
+    λ y i r. ⊎_elim
+        (λ (j : y ∈ a). apart_above R x a b p y j (turn x y r)) (λ (j : y ∈ b). apart_below R x a b p y j r) (in_either a b i),
+  )

@@ -64,7 +64,7 @@ module _ {B : Type 0} where
     known = λ k i. known' k (in_last_cases m g i);
     below = λ k i p. below' k p (in_last_cases m g i);
     full = λ k i l. full' k i (adv.only k i l);
-    once = apart_last SameLetter same_turned m g ok.once (λ k i e. let h = ok.below k i k.poster in
+    once = apart_last SameLetter m g ok.once (λ k i e. let h = ok.below k i k.poster in
         let n = adv.new in
         let r : number_of k ≤ c m.poster = subst (λ (p : ℕ). number_of k ≤ c p) e.poster h in
         let q = e.number in

@@ -1,120 +1,204 @@
--- Parking the dockets that are out, seat after seat.
-use Rattle.std.proofs.Common.{◌≡◌, ℕ, ◌+◌, ◌<◌, ◌≤◌, ◌≢◌, Bool, true, false, cond, ◌&&◌, nat_lt, length, Some, None, Option, ◌==◌, sym, refl, ◌∙◌, subst, ⊎_elim, arith}
+-- Dockets that are out at a room: they are gathered seat after seat, and parked one after the other.
+use Rattle.std.proofs.Common.{◌≡◌, ℕ, zero, suc, ◌<◌, ◌≤◌, Bool, true, false, cond, ◌&&◌, ◌↔◌, ◌⊎◌, List, [], ◌∷◌, ◌++◌, nat_lt, length, Some, None, Ok, Err, Result, IsOk, ◌==◌, sym, refl, ap, ◌∙◌, subst, inl, inr, ⊎_elim, append-nil, arith}
+use Rattle.std.specs.Option.{option_to_list}
 use Rattle.std.proofs.lemmas.List.{get_or-set_same, get_or-set_other}
-use Rattle.std.proofs.lemmas.Bool.{cases_lt, cond-true, cond-false, lt-ltb, le-ltb}
+use Rattle.std.proofs.lemmas.Bool.{and_right, both_ways, cases_lt, cond-true, cond-false}
 use Rattle.std.proofs.lemmas.Bool.Decides.{nat_tests}
+use Rattle.letters.specs.Lists.{◌∈◌, here, there, Apart}
+use Rattle.letters.specs.Refusals.{unless}
+use Rattle.causality.specs.declared.docket.DocketState.{DocketState}
+use Rattle.causality.specs.declared.docket.DocketState.TheVariants.{Clear, Out, Parked}
+use Rattle.causality.proofs.Lists.{apart_last, by_seat, in_cons, in_last_cases, in_left, in_middle, in_none}
 use Rattle.seats.specs.declared.seat.Seat.{Seat}
 use Rattle.seats.specs.declared.seat.DocketEvent.TheVariants.{Send, Park}
 use Rattle.seats.specs.declared.slip.Slip.{Slip}
+use Rattle.seats.specs.Outcomes.{docket_room, good_slip, park_answer, slip_of}
 use Rattle.seats.specs.Rooms.{RoomState, seat_at, with_seat}
-use Rattle.seats.specs.Seats.{allows, blank, clock_at, docketed}
-use Rattle.rooms.specs.declared.out_dockets.OutDockets.{OutDockets}
-use Rattle.rooms.specs.Handing.{SameTerms, is_out, left_at, out_at, parked_at, parked_room}
+use Rattle.seats.specs.Seats.{allows, blank, clock_at, docketed, moved}
+use Rattle.rooms.specs.declared.docket.Returned.{Returned}
+use Rattle.rooms.specs.States.{spent}
+use Rattle.rooms.specs.Handing.{AreOut, SameTerms, dockets_below, dockets_out, first_docket, is_out, parked_at}
 
-module _ (st : RoomState) (i : ℕ) where
-  parked_other : (s : ℕ) → s ≢ i → seat_at (parked_room st i) s ≡ seat_at st s
-  parked_other s ne = told (is_out st i)
+-- a later docket is not of a later seat
+abbrev NotLater : Slip → Slip → Type 0
+NotLater d k = k.seat ≤ d.seat
+
+-- what a good docket is: that of its seat, which is out
+module _ (st : RoomState) (d : Slip) (good : good_slip st d ≡ true) where
+  pub good_out : is_out st d.seat ≡ true
+  good_out = grind (arith, nat_tests)
+
+  good_room : d.room ≡ st.number
+  good_room = grind (arith, nat_tests)
+
+  good_number : d.number ≡ clock_at (seat_at st d.seat) d.seat
+  good_number = grind (arith, nat_tests)
+
+  pub good_is : d ≡ slip_of st d.seat
+  good_is = λ i. record { room = good_room i; seat = d.seat; number = good_number i }
+
+  pub good_seat : d.seat < st.count
+  good_seat = grind (arith, nat_tests)
+
+pub out_good : (st : RoomState) (s : ℕ) → is_out st s ≡ true → good_slip st (slip_of st s) ≡ true
+out_good st s out = grind (arith, nat_tests)
+
+-- the dockets are those of the seats below i
+abbrev OutBelow : RoomState → ℕ → List Slip → Type 0
+OutBelow st i dockets = record {
+  good : (d : Slip) → (d ∈ dockets) ↔ ((good_slip st d ≡ true) × (d.seat < i));
+  in_turn : Apart NotLater dockets;
+}
+
+none_gathered : (st : RoomState) → OutBelow st 0 []
+none_gathered st = record { good = λ d. (λ i. absurd (in_none i), λ g. absurd (omega (arith, g.1))); in_turn = tt }
+
+module _ (st : RoomState) (i : ℕ) (l : List Slip) (so_far : OutBelow st i l) where
+  -- seat i has none out
+  gathered_none : is_out st i ≡ false → OutBelow st (suc i) l
+  gathered_none not_out = record { good = λ d. (λ j. into d ((so_far.good d).0 j), λ g. (so_far.good d).1 (g.0, below d g.0 g.1)); in_turn = so_far.in_turn }
     where
-      told : (b : Bool) → seat_at (cond b (with_seat st i (docketed (seat_at st i) Park)) st) s ≡ seat_at st s
-      told true = get_or-set_other st.seats i s (docketed (seat_at st i) Park) blank ne
-      told false = refl
+      into : (d : Slip) → (good_slip st d ≡ true) × (d.seat < i) → (good_slip st d ≡ true) × (d.seat < suc i)
+      into d g = (g.0, omega (arith, g.1))
 
-  parked_same : length st.seats ≡ 16 → st.count ≤ 16 → seat_at (parked_room st i) i ≡ parked_at st i
-  parked_same sized few = grind (arith, nat_tests, get_or-set_same)
+      below : (d : Slip) → good_slip st d ≡ true → d.seat < suc i → d.seat < i
+      below d good under =
+          ⊎_elim (λ lt. lt) (λ ge. absurd (both_ways (is_out st d.seat) (subst (λ s. is_out st s ≡ false) (omega arith) not_out) (good_out st d good))) (cases_lt d.seat i)
 
-  parked_terms : SameTerms st (parked_room st i)
-  parked_terms = told (is_out st i)
+  -- seat i has one out
+  gathered_one : is_out st i ≡ true → OutBelow st (suc i) (l ++ (slip_of st i ∷ []))
+  gathered_one out = record { good = λ d. (λ j. into d (in_last_cases (slip_of st i) l j), λ g. back d g.0 (cases_lt d.seat i) g.1); in_turn = apart }
     where
-      told : (b : Bool) → SameTerms st (cond b (with_seat st i (docketed (seat_at st i) Park)) st)
-      told true = record { number = refl; names = refl; count = refl; quota = refl }
-      told false = record { number = refl; names = refl; count = refl; quota = refl }
+      into : (d : Slip) → (d ∈ l) ⊎ (d ≡ slip_of st i) → (good_slip st d ≡ true) × (d.seat < suc i)
+      into d (inl j) = let g = (so_far.good d).0 j in (g.0, omega (arith, g.1))
+      into d (inr e) = (subst (λ k. good_slip st k ≡ true) (sym e) (out_good st i out), omega (arith, ap (λ (k : Slip). k.seat) e))
 
--- what is out at a seat, and the seat after it is parked, by the terms and the seat alone
-abbrev out_of : ℕ → ℕ → Seat → ℕ → Option Slip
-out_of number count seat s = cond (nat_lt s count && allows seat.docket Send) (Some (record { room = number; seat = s; number = clock_at seat s })) None
+      back : (d : Slip) → good_slip st d ≡ true → (d.seat < i) ⊎ (i ≤ d.seat) → d.seat < suc i → d ∈ (l ++ (slip_of st i ∷ []))
+      back d good (inl lt) under = in_left (slip_of st i ∷ []) ((so_far.good d).1 (good, lt))
+      back d good (inr ge) under =
+          subst (λ k. k ∈ (l ++ (slip_of st i ∷ []))) (sym (good_is st d good ∙ ap (slip_of st) (omega arith))) (in_middle (slip_of st i) l [])
 
-abbrev parked_of : ℕ → Seat → ℕ → Seat
-parked_of count seat s = cond (nat_lt s count && allows seat.docket Send) (docketed seat Park) seat
+      apart : Apart NotLater (l ++ (slip_of st i ∷ []))
+      apart = apart_last NotLater (slip_of st i) l so_far.in_turn (λ k j le. absurd (omega (arith, ((so_far.good k).0 j).1, le)))
 
-out_same : (st st' : RoomState) (s : ℕ) → SameTerms st st' → seat_at st' s ≡ seat_at st s → out_at st' s ≡ out_at st s
-out_same st st' s same e = λ j. out_of (same.number j) (same.count j) (e j) s
+-- The dockets that are out are those that are good.
+gathered_next : (st : RoomState) (i : ℕ) (l : List Slip) → OutBelow st i l → (b : Bool) → is_out st i ≡ b
+    → OutBelow st (suc i) (l ++ option_to_list (cond b (Some (slip_of st i)) None))
+gathered_next st i l so_far true out = gathered_one st i l so_far out
+gathered_next st i l so_far false out = subst (OutBelow st (suc i)) (sym (append-nil l)) (gathered_none st i l so_far out)
 
-parked_same_at : (st st' : RoomState) (s : ℕ) → SameTerms st st' → seat_at st' s ≡ seat_at st s → parked_at st' s ≡ parked_at st s
-parked_same_at st st' s same e = λ j. parked_of (same.count j) (e j) s
+gathered : (st : RoomState) (i : ℕ) → OutBelow st i (dockets_below st i)
+gathered st zero = none_gathered st
+gathered st (suc i) = gathered_next st i (dockets_below st i) (gathered st i) (is_out st i) refl
 
--- the dockets of the first i seats are parked, and those of the others are left
-abbrev pub ParkedTo : RoomState → RoomState → OutDockets → ℕ → Type 0
-ParkedTo was st d i = record {
-  left : (s : ℕ) → left_at d s ≡ cond (nat_lt s i) None (out_at st s);
-  seats : (s : ℕ) → seat_at st s ≡ cond (nat_lt s i) (parked_at was s) (seat_at was s);
+pub out_are_good : (st : RoomState) → st.count ≤ 16 → AreOut st (dockets_out st)
+out_are_good st few =
+    let all = gathered st 16 in
+    record {
+      good = λ d. (λ j. ((all.good d).0 j).0, λ good. (all.good d).1 (good, omega (arith, good_seat st d good)));
+      in_turn = all.in_turn;
+    }
+
+-- the first of some dockets
+pub some_first : (l others : List Slip) (d : Slip) → Some (d, others) ≡ first_docket l → l ≡ d ∷ others
+some_first [] others d e = absurd cc
+some_first (k ∷ l) others d e = let pair : ◌≡◌ {A = Slip × List Slip} (k, l) (d, others) = cc in λ j. (pair j).0 ∷ (pair j).1
+
+pub fewer : (l others : List Slip) (d : Slip) → Some (d, others) ≡ first_docket l → length others < length l
+fewer l others d e = omega (arith, ap (length {A = Slip}) (some_first l others d e))
+
+pub none_first : (l : List Slip) → None ≡ first_docket l → l ≡ []
+none_first [] e = refl
+none_first (k ∷ l) e = absurd cc
+
+-- Parking.
+pub parks : (result : Result (Unit {0}) Returned) → spent result ≡ Ok tt → IsOk result
+parks (Ok done) e = refl
+parks (Err back) e = absurd cc
+
+parked_not_out : (e : DocketState) → allows (moved e Park) Send ≡ false
+parked_not_out Clear = refl
+parked_not_out Out = refl
+parked_not_out Parked = refl
+
+-- the dockets are those that are still out, and each seat whose docket is not is as parking leaves it
+abbrev pub ParkedOthers : RoomState → RoomState → List Slip → Type 0
+ParkedOthers was st dockets = record {
+  out : AreOut st dockets;
+  seats : (s : ℕ) → seat_at st s ≡ cond (is_out st s) (seat_at was s) (parked_at was s);
   terms : SameTerms was st;
 }
 
--- then that of seat i is parked
-module _ (was st : RoomState) (d d' : OutDockets) (i : ℕ) (sized : length st.seats ≡ 16) (few : st.count ≤ 16) (so_far : ParkedTo was st d i)
-    (rest : (s : ℕ) → left_at d' s ≡ cond (s == i) None (left_at d s)) where
-  before : (s : ℕ) → s < i → nat_lt s i ≡ true
-  before s lt = lt-ltb s i lt
+pub none_parked : (was : RoomState) (l : List Slip) → AreOut was l → ParkedOthers was was l
+none_parked was l out = record { out = out; seats = λ s. same s (is_out was s); terms = record { number = refl; names = refl; count = refl; quota = refl } }
+  where
+    same : (s : ℕ) (b : Bool) → seat_at was s ≡ cond b (seat_at was s) (cond b (docketed (seat_at was s) Park) (seat_at was s))
+    same s true = refl
+    same s false = refl
 
-  after : (s : ℕ) → i ≤ s → nat_lt s i ≡ false
-  after s ge = le-ltb s i ge
+pub all_parked : (was st : RoomState) (l : List Slip) → ParkedOthers was st l → l ≡ [] → (s : ℕ) → seat_at st s ≡ parked_at was s
+all_parked was st l p none s = p.seats s ∙ cond-false _ _ _ (not_out (is_out st s) refl)
+  where
+    not_out : (b : Bool) → is_out st s ≡ b → is_out st s ≡ false
+    not_out false e = e
+    not_out true e = absurd (in_none (subst (λ (k : List Slip). slip_of st s ∈ k) none ((p.out.good (slip_of st s)).1 (out_good st s e))))
 
-  left_before : (s : ℕ) → s < i → left_at d' s ≡ cond (nat_lt s (i + 1)) None (out_at (parked_room st i) s)
-  left_before s lt =
-      let r = rest s in
-      let l = so_far.left s in
-      grind (arith, nat_tests)
+module _ (was st : RoomState) (d : Slip) (others : List Slip) (sized : length st.seats ≡ 16) (few : st.count ≤ 16) (p : ParkedOthers was st (d ∷ others)) where
+  good : good_slip st d ≡ true
+  good = (p.out.good d).0 (here refl)
 
-  left_there : left_at d' i ≡ cond (nat_lt i (i + 1)) None (out_at (parked_room st i) i)
-  left_there =
-      let r = rest i in
-      grind (arith, nat_tests)
+  pub may_park : park_answer st d ≡ Ok tt
+  may_park = ap (λ b. unless b 12 (Ok tt)) good
 
-  left_after : (s : ℕ) → i < s → left_at d' s ≡ cond (nat_lt s (i + 1)) None (out_at (parked_room st i) s)
-  left_after s lt =
-      let r = rest s in
-      let l = so_far.left s in
-      let o = out_same st (parked_room st i) s (parked_terms st i) (parked_other st i s (omega arith)) in
-      grind (arith, nat_tests)
+  abbrev pub st' : RoomState
+  st' = with_seat st d.seat (docketed (seat_at st d.seat) Park)
 
-  seat_before : (s : ℕ) → s < i → seat_at (parked_room st i) s ≡ cond (nat_lt s (i + 1)) (parked_at was s) (seat_at was s)
-  seat_before s lt =
-      parked_other st i s (omega arith)
-      ∙ so_far.seats s
-      ∙ cond-true (nat_lt s i) (parked_at was s) (seat_at was s) (before s lt)
-      ∙ sym (cond-true (nat_lt s (i + 1)) (parked_at was s) (seat_at was s) (lt-ltb s (i + 1) (omega arith)))
+  elsewhere : (s : ℕ) → ¬ (s ≡ d.seat) → seat_at st' s ≡ seat_at st s
+  elsewhere s ne = get_or-set_other st.seats d.seat s (docketed (seat_at st d.seat) Park) blank ne
 
-  seat_there : seat_at (parked_room st i) i ≡ cond (nat_lt i (i + 1)) (parked_at was i) (seat_at was i)
-  seat_there =
-      parked_same st i sized few
-      ∙ parked_same_at was st i so_far.terms (so_far.seats i ∙ cond-false (nat_lt i i) (parked_at was i) (seat_at was i) (after i (omega arith)))
-      ∙ sym (cond-true (nat_lt i (i + 1)) (parked_at was i) (seat_at was i) (lt-ltb i (i + 1) (omega arith)))
+  at_seat : seat_at st' d.seat ≡ docketed (seat_at st d.seat) Park
+  at_seat = get_or-set_same st.seats d.seat (docketed (seat_at st d.seat) Park) blank (omega (arith, sized, few, good_seat st d good))
 
-  seat_after : (s : ℕ) → i < s → seat_at (parked_room st i) s ≡ cond (nat_lt s (i + 1)) (parked_at was s) (seat_at was s)
-  seat_after s lt =
-      parked_other st i s (omega arith)
-      ∙ so_far.seats s
-      ∙ cond-false (nat_lt s i) (parked_at was s) (seat_at was s) (after s (omega arith))
-      ∙ sym (cond-false (nat_lt s (i + 1)) (parked_at was s) (seat_at was s) (le-ltb s (i + 1) (omega arith)))
+  not_out : is_out st' d.seat ≡ false
+  not_out = and_right _ _ (ap (λ (seat : Seat). allows seat.docket Send) at_seat ∙ parked_not_out (seat_at st d.seat).docket)
 
-  each : (P : ℕ → Type 0) → ((s : ℕ) → s < i → P s) → P i → ((s : ℕ) → i < s → P s) → (s : ℕ) → P s
-  each P lower there upper s =
-      ⊎_elim (lower s) (λ ge. ⊎_elim (λ le. subst P (omega arith) there) (λ gt. upper s (omega arith)) (cases_lt s (i + 1))) (cases_lt s i)
+  same_out : (s : ℕ) → ¬ (s ≡ d.seat) → is_out st' s ≡ is_out st s
+  same_out s ne = ap (λ (seat : Seat). nat_lt s st.count && allows seat.docket Send) (elsewhere s ne)
 
-  parked_here : ParkedTo was (parked_room st i) d' (i + 1)
-  parked_here = record {
-    left = each (λ s. left_at d' s ≡ cond (nat_lt s (i + 1)) None (out_at (parked_room st i) s)) left_before left_there left_after;
-    seats = each (λ s. seat_at (parked_room st i) s ≡ cond (nat_lt s (i + 1)) (parked_at was s) (seat_at was s)) seat_before seat_there seat_after;
-    terms =
-        let now = parked_terms st i in
-        let then' = so_far.terms in
-        record {
-          number = now.number ∙ then'.number;
-          names = now.names ∙ then'.names;
-          count = now.count ∙ then'.count;
-          quota = now.quota ∙ then'.quota;
-        };
+  same_good : (k : Slip) → ¬ (k.seat ≡ d.seat) → good_slip st' k ≡ good_slip st k
+  same_good k ne =
+      ap (λ (seat : Seat). (k.room == st.number) && (nat_lt k.seat st.count && (allows seat.docket Send && k.number == clock_at seat k.seat))) (elsewhere k.seat ne)
+
+  other_seat : (k : Slip) → k ∈ others → ¬ (k.seat ≡ d.seat)
+  other_seat k j e = p.out.in_turn.0 k j (omega (arith, e))
+
+  still_good : (k : Slip) → good_slip st' k ≡ true → ¬ (k.seat ≡ d.seat)
+  still_good k g e = both_ways (is_out st' d.seat) not_out (subst (λ s. is_out st' s ≡ true) e (good_out st' k g))
+
+  still_left : (k : Slip) → good_slip st' k ≡ true → k ∈ others
+  still_left k g = go (in_cons ((p.out.good k).1 (sym (same_good k (still_good k g)) ∙ g)))
+    where
+      go : (k ≡ d) ⊎ (k ∈ others) → k ∈ others
+      go (inl e) = absurd (still_good k g (ap (λ (x : Slip). x.seat) e))
+      go (inr j) = j
+
+  at_seat_parked : seat_at st' d.seat ≡ parked_at was d.seat
+  at_seat_parked =
+      let here' = p.seats d.seat ∙ cond-true _ _ _ (good_out st d good) in
+      let was_out = sym (λ j. nat_lt d.seat (p.terms.count j) && allows (here' j).docket Send) in
+      at_seat ∙ ap (λ seat. docketed seat Park) here' ∙ sym (cond-true (is_out was d.seat) _ _ (was_out ∙ good_out st d good))
+
+  pub parked_one : ParkedOthers was st' others
+  parked_one = record {
+    out = record {
+      good = λ k. (λ j. same_good k (other_seat k j) ∙ (p.out.good k).0 (there j), still_left k);
+      in_turn = p.out.in_turn.1;
+    };
+    seats = by_seat d.seat (λ s. seat_at st' s ≡ cond (is_out st' s) (seat_at was s) (parked_at was s))
+        (at_seat_parked ∙ sym (cond-false _ _ _ not_out))
+        (λ s ne. elsewhere s ne ∙ p.seats s ∙ ap (λ b. cond b (seat_at was s) (parked_at was s)) (sym (same_out s ne)));
+    terms = record { number = p.terms.number; names = p.terms.names; count = p.terms.count; quota = p.terms.quota };
   }
 
-  pub parked_next : (st' : RoomState) → st' ≡ parked_room st i → ParkedTo was st' d' (i + 1)
-  parked_next st' is = subst (λ (x : RoomState). ParkedTo was x d' (i + 1)) (sym is) parked_here
+  pub parked_next : (now : RoomState) → now ≡ docket_room st d.seat Park (park_answer st d) → ParkedOthers was now others
+  parked_next now is = subst (λ x. ParkedOthers was x others) (sym (is ∙ ap (docket_room st d.seat Park) may_park)) parked_one

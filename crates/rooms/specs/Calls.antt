@@ -1,11 +1,16 @@
 -- What the calls on a room leave.
-use Rattle.std.specs.Prelude.{◌≡◌, ℕ, length, Ok, Err, Result, slice_index_or}
+use Rattle.std.specs.Prelude.{◌≡◌, ℕ, List, length, Some, None, Ok, Err, Option, Result, slice_index_or}
 use Rattle.letters.specs.declared.letter.Letter.{Letter}
-use Rattle.letters.specs.Refusals.{Reason}
+use Rattle.letters.specs.Letters.{letter_name}
+use Rattle.letters.specs.Names.{Name}
+use Rattle.letters.specs.Order.{Ready}
+use Rattle.letters.specs.Refusals.{Reason, plain}
 use Rattle.carriers.specs.Meaning.{Drawn, Meaning, draw_answer}
 use Rattle.seats.specs.declared.slip.Slip.{Slip}
 use Rattle.seats.specs.Outcomes.{DrawRests, PutsOnce, after, carrier_check, posted_room}
-use Rattle.seats.specs.Rooms.{RoomState}
+use Rattle.seats.specs.Rooms.{RoomState, hold_of, seat_at}
+use Rattle.seats.specs.Scans.{FirstSuch}
+use Rattle.seats.specs.Seats.{clock_at}
 use Rattle.lives.specs.declared.moves.Move.{Move}
 use Rattle.lives.specs.declared.moves.Move.TheVariants as moves
 use Rattle.lives.specs.Worked.{Moment, letter_at, send_at}
@@ -29,3 +34,12 @@ Carried puts rests (moves.Park d) w c c' = c' ≡ c
 Carried puts rests (moves.Collect s) w c c' = c' ≡ c
 Carried puts rests (moves.Take s place) w c c' = DrawRests rests (carrier_check w.room (length w.logs) (length w.holds) w.carrier.seats) (draw_answer w.carrier s place) c c'
 Carried puts rests (moves.Show s) w c c' = c' ≡ c
+
+-- the first letter of the hold that is ready at the seat, with its place; or none is
+abbrev pub FirstHeldReady : {B : Type 0} → RoomState → List (Letter B) → ℕ → Option (ℕ × Letter B) → Type 0
+FirstHeldReady st holds s found = FirstSuch (Ready st.count st.quota s (clock_at (seat_at st s))) (hold_of st holds s) found
+
+-- a show answers the name of the first held letter that is ready, and 15 only where none is
+abbrev pub ShowsReady : {B : Type 0} → RoomState → List (Letter B) → ℕ → Result Name Reason → Type 0
+ShowsReady {B} st holds s (Ok i) = (found : ℕ × Letter B) × FirstHeldReady st holds s (Some found) × (letter_name found.1 ≡ i)
+ShowsReady st holds s (Err why) = why ≡ plain 15 → FirstHeldReady st holds s None

@@ -5,6 +5,7 @@ pub mod closed;
 pub mod declined;
 pub mod docket;
 pub mod draft;
+pub mod ended;
 pub mod out_dockets;
 pub mod room;
 pub mod run;

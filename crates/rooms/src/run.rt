@@ -1,16 +1,17 @@
 // A room's whole life: it opens and makes one step after the other.
-ghost use Rattle.std.specs.Prelude.{◌≡◌, ℕ, ◌≤◌, [], length, drop, Ok};
+ghost use Rattle.std.specs.Prelude.{◌≡◌, ◌≤◌, [], length, drop, Ok};
 ghost use Rattle.letters.specs.Refusals.{told};
 ghost use Rattle.lives.specs.Traces.{answer_of, traced};
 ghost use Rattle.lives.specs.Worked.{Leads, Worked, moment};
 ghost use Rattle.lives.specs.Keeps.{AlwaysKeeps, Keeps, KeepsThroughout};
 ghost use Rattle.rooms.specs.Drafts.{draft_state, opened};
-ghost use Rattle.rooms.specs.Handing.{left_at, out_at};
+ghost use Rattle.rooms.specs.Handing.{AreOut, dockets_left, dockets_out};
 ghost use Rattle.rooms.specs.Running.{run_check};
-ghost use Rattle.rooms.specs.Serving.{Serves};
+ghost use Rattle.rooms.specs.Serving.{CarriedThrough, Serves};
 ghost use Rattle.rooms.specs.States.{state};
 
 use crate::draft::Draft;
+use crate::ended::Ended;
 use crate::out_dockets::OutDockets;
 use crate::room::Room;
 use carriers::carrier::Carrier;
@@ -39,12 +40,6 @@ pub fn check<B: Body, C: Carrier<Body = B>>(
     draft.check_open(logs, holds, carrier)
 }
 
-// A room in which a list of steps was made, with the dockets that are out there.
-pub struct Ended {
-    pub room: Room,
-    pub dockets: OutDockets,
-}
-
 // Opens the room, makes the steps in turn and writes down what each replies; of each seat whose docket is out in the end it
 // hands out the docket. Whatever the steps are, the room keeps causal order, complete delivery and convergence on every kind
 // of sheet, and did so after each step.
@@ -62,8 +57,10 @@ pub fn run<B: Body, C: Carrier<Body = B>, K: Sheet<Body = B>>(
     ensures keeps { Keeps K.Sheet.kind (traced answer_of [] steps.now replies.new) (moment (state result.room) logs.new holds.new (C.Carrier.meaning carrier.new)) }
     ensures throughout { KeepsThroughout K.Sheet.kind (moment (opened (draft_state draft)) logs.old holds.old (C.Carrier.meaning carrier.old)) (traced answer_of [] steps.now replies.new) (moment (state result.room) logs.new holds.new (C.Carrier.meaning carrier.new)) }
     ensures always { AlwaysKeeps K.Sheet.kind }
+    ensures carrier { CarriedThrough C.Carrier.meaning C.Carrier.puts C.Carrier.rests (moment (opened (draft_state draft)) logs.old holds.old (C.Carrier.meaning carrier.old)) carrier.old (traced answer_of [] steps.now replies.new) (moment (state result.room) logs.new holds.new (C.Carrier.meaning carrier.new)) carrier.new }
     ensures serves { Serves C.Carrier.meaning C.Carrier.puts C.Carrier.rests carrier.old (traced answer_of [] steps.now replies.new) carrier.new }
-    ensures dockets { (s : ℕ) → left_at result.dockets s ≡ out_at (state result.room) s }
+    ensures dockets { dockets_left result.dockets ≡ dockets_out (state result.room) }
+    ensures good { AreOut (state result.room) (dockets_left result.dockets) }
     ensures rest { drop (length steps.now) replies.new ≡ drop (length steps.now) replies.old }
 {
     let mut room = draft.open(logs, holds, carrier);
@@ -83,6 +80,7 @@ fn step_all<B: Body, C: Carrier<Body = B>>(
 )
     requires { length steps.now ≤ length replies.old }
     ensures leads { Leads (moment (state room.old) logs.old holds.old (C.Carrier.meaning carrier.old)) (traced answer_of [] steps.now replies.new) (moment (state room.new) logs.new holds.new (C.Carrier.meaning carrier.new)) }
+    ensures carrier { CarriedThrough C.Carrier.meaning C.Carrier.puts C.Carrier.rests (moment (state room.old) logs.old holds.old (C.Carrier.meaning carrier.old)) carrier.old (traced answer_of [] steps.now replies.new) (moment (state room.new) logs.new holds.new (C.Carrier.meaning carrier.new)) carrier.new }
     ensures serves { Serves C.Carrier.meaning C.Carrier.puts C.Carrier.rests carrier.old (traced answer_of [] steps.now replies.new) carrier.new }
     ensures rest { drop (length steps.now) replies.new ≡ drop (length steps.now) replies.old }
 {

@@ -1,9 +1,10 @@
 // Finding a letter in a part of a table.
 ghost use Rattle.std.specs.Prelude.{◌≡◌};
 ghost use Rattle.std.specs.Option.{option_map};
-ghost use Rattle.letters.specs.Order.{ready};
+ghost use Rattle.letters.specs.Letters.{entry_at};
+ghost use Rattle.letters.specs.Order.{Ready, ready};
 ghost use Rattle.seats.specs.Outcomes.{first, is_called};
-ghost use Rattle.seats.specs.Scans.{due};
+ghost use Rattle.seats.specs.Scans.{FirstSuch, due};
 
 use letters::letter::Letter;
 use letters::stamp::Stamp;
@@ -42,7 +43,8 @@ pub fn first_ready<'h, B: Copy>(
     seat: u8,
     clock: &Stamp,
 ) -> Option<(usize, &'h Letter<B>)>
-    ensures { option_map (λ p. (p.0, p.1.now)) result ≡ first (ready count quota seat clock.now) 0 hold.now }
+    ensures answer { option_map (λ p. (p.0, p.1.now)) result ≡ first (ready count quota seat clock.now) 0 hold.now }
+    ensures decides { FirstSuch (Ready count quota seat (entry_at clock.now)) hold.now (option_map (λ p. (p.0, p.1.now)) result) }
 {
     'arrivals: for (at, letter) in hold.iter().enumerate() {
         if !is_due(letter, count, quota, seat, clock) {

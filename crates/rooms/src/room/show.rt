@@ -3,6 +3,7 @@ ghost use Rattle.std.specs.Prelude.{◌≡◌, length};
 ghost use Rattle.letters.specs.Names.{name_of};
 ghost use Rattle.letters.specs.Refusals.{told};
 ghost use Rattle.seats.specs.Outcomes.{show_answer, show_holds, show_logs, show_outcome, show_room};
+ghost use Rattle.rooms.specs.Calls.{ShowsReady};
 ghost use Rattle.rooms.specs.States.{state};
 
 use crate::room::Room;
@@ -24,6 +25,7 @@ impl Room {
         seat: u8,
     ) -> Result<LetterId, Refusal>
         ensures answer { told name_of result ≡ show_answer (show_outcome (state self.old) (length logs.old) holds.old seat) }
+        ensures ready { ShowsReady (state self.old) holds.old seat (told name_of result) }
         ensures room { state self.new ≡ show_room (state self.old) (show_outcome (state self.old) (length logs.old) holds.old seat) seat }
         ensures logs { logs.new ≡ show_logs (state self.old) (show_outcome (state self.old) (length logs.old) holds.old seat) seat logs.old }
         ensures holds { holds.new ≡ show_holds (state self.old) (show_outcome (state self.old) (length logs.old) holds.old seat) seat holds.old }

@@ -1,11 +1,14 @@
-use Rattle.std.proofs.Common.{[], length, subst}
+use Rattle.std.proofs.Common.{[], length, subst, sym}
 use Rattle.seats.specs.Rooms.{RoomState}
 use Rattle.lives.specs.Traces.{answer_of, traced}
 use Rattle.lives.specs.Worked.{Leads, Worked, moment}
 use Rattle.lives.proofs.Keeping.{always_keeps}
 use Rattle.lives.proofs.Throughout.{keeps_throughout}
 use Rattle.rooms.specs.Drafts.{draft_state, opened}
+use Rattle.rooms.specs.Handing.{AreOut}
+use Rattle.rooms.specs.Serving.{CarriedThrough}
 use Rattle.rooms.specs.States.{state}
+use Rattle.rooms.proofs.Handing.{out_are_good}
 use Rattle.rooms.proofs.Running.{as_opened, runnable}
 use Rattle.rooms.proofs.run.run.Goals as goal
 
@@ -29,7 +32,9 @@ returns g c =
       keeps = always_keeps g.K.Sheet.kind g.met.K.Sheet.lawful trace after worked;
       throughout = keeps_throughout g.K.Sheet.kind g.met.K.Sheet.lawful first trace after opens leads;
       always = always_keeps g.K.Sheet.kind g.met.K.Sheet.lawful;
+      carrier = subst (λ (st : RoomState). CarriedThrough g.C.Carrier.meaning g.C.Carrier.puts g.C.Carrier.rests (moment st logs holds before) c.args.carrier.now trace after now.carrier) c.open-room.ensures.room c.step_all.ensures.carrier;
       serves = c.step_all.ensures.serves;
       dockets = c.of-dockets.ensures;
+      good = subst (AreOut (state now.room)) (sym c.of-dockets.ensures) (out_are_good (state now.room) now.room.terms.few);
       rest = c.step_all.ensures.rest;
     }

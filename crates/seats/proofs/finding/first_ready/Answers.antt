@@ -1,6 +1,11 @@
 use Rattle.std.proofs.Common.{◌≡◌, ◌≤◌, [], ◌∷◌, length, sym, length-append, arith}
 use Rattle.letters.specs.Letters.{entry_at}
-use Rattle.seats.proofs.Searches.{first_on, first_found}
+use Rattle.std.proofs.Common.{None, ◌∙◌}
+use Rattle.std.proofs.lemmas.List.{at_drop_all}
+use Rattle.letters.specs.Order.{ready}
+use Rattle.seats.specs.Outcomes.{first}
+use Rattle.letters.proofs.Readiness.{decides_ready}
+use Rattle.seats.proofs.Searches.{first_on, first_found, first_such}
 use Rattle.seats.proofs.Readiness.{pair_turn, pairs_end, known_more, too_early, is_ready}
 use Rattle.seats.proofs.finding.first_ready.Goals.{else-stamped-shown-via-then-stamped-shown+else-other-poster, else-stamped-shown-via-else-stamped-shown}
 use Rattle.seats.proofs.finding.first_ready.Goals as goal
@@ -39,6 +44,20 @@ returns-in-arrivals g c =
     let all : length c.loop-other.yielded ≡ 16 =
     pairs_end m.stamp clock m.sized (omega arith) c.into_iter-other-iterator.result (cc) (cc) (cc)
     c.loop-other.yielded c.loop-other.other-iterator c.loop-other.yielded_by c.next.result c.next.new.self c.next.ensures.steps c.in-None.is in
+    let answer =
     first_found _ c.args.hold.now c.arrivals.at _ c.arrivals.invariant m c.arrivals-test.true c.index-hold-at.is
     (is_ready c.args.count c.args.quota c.args.seat clock m (sym c.if-not-is_due.ensures)
-    (λ p lt. c.loop-other.invariant p (omega arith)))
+    (λ p lt. c.loop-other.invariant p (omega arith))) in
+    record {
+      answer = answer;
+      decides = first_such _ _ (λ x. decides_ready c.args.clock.now x c.args.count c.args.quota c.args.seat) c.args.hold.now _ answer;
+    }
+
+pub returns : goal.returns
+returns g c =
+    let m = ready c.args.count c.args.quota c.args.seat c.args.clock.now in
+    let answer = sym (at_drop_all (first m c.arrivals.at) c.args.hold.now c.arrivals.at c.arrivals-test.false) ∙ c.arrivals.invariant in
+    record {
+      answer = answer;
+      decides = first_such m _ (λ x. decides_ready c.args.clock.now x c.args.count c.args.quota c.args.seat) c.args.hold.now None answer;
+    }
