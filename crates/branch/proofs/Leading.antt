@@ -1,56 +1,130 @@
 -- The steps of the program lead on and on.
-use Rattle.std.proofs.Common.{◌≡◌, ℕ, ◌+◌, Bool, true, false, cond, List, [], ◌++◌, length, IfOk, Some, None, Ok, Err, Option, Result, ◌==◌, sym, refl, subst, append-nil}
+use Rattle.std.proofs.Common.{◌≡◌, ℕ, ◌+◌, Bool, true, false, cond, List, [], ◌∷◌, ◌++◌, map, length, Some, None, Ok, Err, Option, Result, ◌==◌, sym, refl, ap, ◌∙◌, subst}
 use Rattle.std.proofs.lemmas.Bool.{eqb-true}
+use Rattle.std.proofs.lemmas.List.{map-append}
 use Rattle.letters.specs.declared.job.Job.{Job}
+use Rattle.letters.specs.declared.letter.Letter.{Letter}
 use Rattle.letters.specs.declared.refusal.Refusal.{Refusal}
-use Rattle.sheets.specs.Sheets.{Kind, Lawful}
+use Rattle.letters.specs.Letters.{letter_name}
+use Rattle.letters.specs.Names.{Name}
+use Rattle.carriers.specs.Meaning.{Meaning}
+use Rattle.carriers.specs.Serving.{Served, nothing, one_draw, one_no, one_put}
+use Rattle.seats.specs.declared.slip.Slip.{Slip}
+use Rattle.lives.specs.declared.moves.Move.{Move}
+use Rattle.lives.specs.declared.moves.Move.TheVariants as moves
 use Rattle.lives.specs.declared.moves.Move.TheVariants.{Collect, Post, Show, Take}
-use Rattle.lives.specs.Traces.{Trace}
-use Rattle.lives.specs.Worked.{Leads, Moment, Worked, further, nowhere}
+use Rattle.lives.specs.Traces as traces
+use Rattle.lives.specs.Traces.{Answer, Trace, made, sent, sent_by}
+use Rattle.lives.specs.Worked.{Leads, Moment, Step, further, nowhere}
+use Rattle.rooms.specs.Calls.{Carried}
+use Rattle.rooms.specs.Serving.{Serves}
+use Rattle.rooms.proofs.Serving.{serves_on}
+use Rattle.branch.specs.declared.desk.Desk.{Desk}
 use Rattle.branch.specs.declared.step.Call.{Call}
 use Rattle.branch.specs.declared.step.Call.TheVariants as calls
 use Rattle.branch.specs.declared.outcome.Outcome.{Outcome}
 use Rattle.branch.specs.declared.step.NoStep.{NoStep}
-use Rattle.branch.specs.declared.step.Step.{Step}
-use Rattle.branch.specs.Turns.{Follows, Turn, docket_calls, show_calls, take_calls}
-use Rattle.lives.proofs.Keeping.{always_keeps}
-use Rattle.lives.proofs.Tracing.{worked_more}
-use Rattle.branch.specs.Runs.{KeptOn, Led, MadeSteps, Ran, Stepped, more, next_index, none, step_bytes}
+use Rattle.branch.specs.declared.step.Step as steps
+use Rattle.branch.specs.Desks.{standing}
+use Rattle.branch.specs.Runs.{MadeSteps, Ran, Stepped, more, next_index, none, step_bytes}
 use Rattle.branch.specs.Steps.{Brought, bad, call_brought, step_brought, step_of}
+use Rattle.branch.specs.Turns.{Driven, Follows, Turn, docket_calls, show_calls, take_calls}
 
 leads_on : {a b c : Moment Job} {t u : Trace Job} → Leads a t b → Leads b u c → Leads a (u ++ t) c
 leads_on first nowhere = first
 leads_on first (further led step) = further (leads_on first led) step
 
-pub led_nowhere : (w : Moment Job) → Led w w
-led_nowhere w = record { trace = []; led = nowhere }
+-- what a step sent stands in front of what was sent before it
+answer_sent : (d : Slip) (answer : Answer) (a b : List Name) → traces.by_send d answer (a ++ b) ≡ traces.by_send d answer a ++ b
+answer_sent d (traces.docket other) a b = refl
+answer_sent d traces.done a b = refl
+answer_sent d (traces.taken how i) a b = refl
+answer_sent d (traces.showed i) a b = refl
+answer_sent d (traces.refused why) a b = refl
 
-pub led_on : (a b c : Moment Job) → Led a b → Led b c → Led a c
-led_on a b c first then' = record { trace = then'.trace ++ first.trace; led = leads_on first.led then'.led }
+step_sent : (move : Move Job Slip) (answer : Answer) (a b : List Name) → sent_by move answer (a ++ b) ≡ sent_by move answer a ++ b
+step_sent (moves.Post s body) answer a b = refl
+step_sent (moves.Send d) answer a b = answer_sent d answer a b
+step_sent (moves.Park d) answer a b = refl
+step_sent (moves.Collect s) answer a b = refl
+step_sent (moves.Take s place) answer a b = refl
+step_sent (moves.Show s) answer a b = refl
 
-follows_led : (calls : Option (Trace Job)) (w w' : Moment Job) → Follows calls w w' → Led w w'
-follows_led (Some trace) w w' led = record { trace = trace; led = led }
-follows_led None w w' led = absurd led
+sent_both : (u t : Trace Job) → sent (u ++ t) ≡ sent u ++ sent t
+sent_both [] t = refl
+sent_both (x ∷ u) t = ap (sent_by x.move x.answer) (sent_both u t) ∙ step_sent x.move x.answer (sent u) (sent t)
 
--- a step leads on
-pub turn_led : (s : ℕ) (call : Call) (w : Moment Job) (o : Result Outcome Refusal) (w' : Moment Job) → Turn s call w o w' → Led w w'
-turn_led s (calls.Post (Ok job)) w o w' turn = follows_led (docket_calls (Post s job) o) w w' turn
-turn_led s (calls.Post (Err why)) w o w' turn = subst (Led w) (sym turn.1) (led_nowhere w)
-turn_led s calls.Collect w o w' turn = follows_led (docket_calls (Collect s) o) w w' turn
-turn_led s (calls.Take place) w o w' turn = follows_led (take_calls (Take s place) o) w w' turn
-turn_led s calls.Show w o w' turn = follows_led (show_calls (Show s) o) w w' turn
+module _ {C : Type 0} (meaning : C → Meaning (Letter Job)) (puts : C → Letter Job → C → Type 0) (rests : C → C → Type 0) where
+  served_more : {a b c : C} {ls ms : List (Letter Job)} → Served meaning puts rests a ls b → Served meaning puts rests b ms c → Served meaning puts rests a (ms ++ ls) c
+  served_more was nothing = was
+  served_more was (one_put before put) = one_put (served_more was before) put
+  served_more was (one_draw before draw) = one_draw (served_more was before) draw
+  served_more was (one_no before rest) = one_no (served_more was before) rest
 
--- a room that was opened, and then worked by what was led to, keeps what rooms keep
-pub made_keeps : {M X Y : Type 0} (kind : Kind M Job) → Lawful kind → (r : Result X Y) (w w' : Moment Job) → Worked [] w → IfOk r (λ _. Led w w') → IfOk r (λ _. KeptOn kind w')
-made_keeps kind laws (Ok x) w w' was way =
-    let worked = subst (λ (t : Trace Job). Worked t w') (append-nil way.trace) (worked_more was way.led) in
-    record { trace = way.trace; worked = worked; keeps = always_keeps kind laws way.trace w' worked }
-made_keeps kind laws (Err y) w w' was way = tt
+  unserved : (c : C) → Serves meaning puts rests c [] c
+  unserved c = record { letters = []; served = nothing; named = refl }
+
+  serves_more : {a b c : C} (t u : Trace Job) → Serves meaning puts rests a t b → Serves meaning puts rests b u c → Serves meaning puts rests a (u ++ t) c
+  serves_more t u first then' = record {
+    letters = then'.letters ++ first.letters;
+    served = served_more first.served then'.served;
+    named = map-append letter_name then'.letters first.letters ∙ ap (λ (l : List Name). l ++ map letter_name first.letters) then'.named
+        ∙ ap (λ (l : List Name). sent u ++ l) first.named ∙ sym (sent_both u t);
+  }
+
+  -- no call
+  pub idle : (d : Desk C) → Driven meaning puts rests [] d d
+  idle d = record { leads = nowhere; serves = unserved d.carrier }
+
+  -- one call, by what it answers and leaves and by what it does to the carrier
+  pub one_call : (move : Move Job Slip) (answer : Answer) (d d' : Desk C) → Step move (standing meaning d) answer (standing meaning d')
+      → Carried puts rests move (standing meaning d) d.carrier d'.carrier → Driven meaning puts rests (made move answer ∷ []) d d'
+  one_call move answer d d' step carried = record {
+    leads = further nowhere step;
+    serves = serves_on meaning puts rests d.carrier d'.carrier move (standing meaning d) (standing meaning d') answer refl refl step carried d.carrier [] (unserved d.carrier);
+  }
+
+  -- further calls
+  pub driven_on : {t u : Trace Job} {a b c : Desk C} → Driven meaning puts rests t a b → Driven meaning puts rests u b c → Driven meaning puts rests (u ++ t) a c
+  driven_on {t} {u} first then' = record { leads = leads_on first.leads then'.leads; serves = serves_more t u first.serves then'.serves }
+
+  -- some calls
+  pub record Led (d d' : Desk C) : Type 0 where
+    pub trace : Trace Job
+    pub driven : Driven meaning puts rests trace d d'
+
+  led_nowhere : (d : Desk C) → Led d d
+  led_nowhere d = record { trace = []; driven = idle d }
+
+  led_on : {a b c : Desk C} → Led a b → Led b c → Led a c
+  led_on first then' = record { trace = then'.trace ++ first.trace; driven = driven_on first.driven then'.driven }
+
+  follows_led : (calls : Option (Trace Job)) (d d' : Desk C) → Follows meaning puts rests calls d d' → Led d d'
+  follows_led (Some trace) d d' driven = record { trace = trace; driven = driven }
+  follows_led None d d' driven = absurd driven
+
+  -- a step leads on
+  turn_led : (s : ℕ) (call : Call) (d : Desk C) (o : Result Outcome Refusal) (d' : Desk C) → Turn meaning puts rests s call d o d' → Led d d'
+  turn_led s (calls.Post (Ok job)) d o d' turn = follows_led (docket_calls (Post s job) o) d d' turn
+  turn_led s (calls.Post (Err why)) d o d' turn = subst (Led d) (sym turn.1) (led_nowhere d)
+  turn_led s calls.Collect d o d' turn = follows_led (docket_calls (Collect s) o) d d' turn
+  turn_led s (calls.Take place) d o d' turn = follows_led (take_calls (Take s place) o) d d' turn
+  turn_led s calls.Show d o d' turn = follows_led (show_calls (Show s) o) d d' turn
+
+  made_led : {bs : List ℕ} {n : ℕ} {start : List ℕ} {d : Desk C} {i index : ℕ} {lines : List ℕ} {e : Desk C} → MadeSteps (Turn meaning puts rests) bs n start d i index lines e → Led d e
+  made_led none = led_nowhere _
+  made_led (more before step) = led_on (made_led before) (turn_led step.step.seat step.step.call _ step.outcome _ step.turn)
+
+  -- whatever was read, the steps lead on
+  pub ran_led : (made : Result (Unit {0}) NoStep) (bs : List ℕ) (n : ℕ) (start : List ℕ) (d : Desk C) (index : ℕ) (lines : List ℕ) (d' : Desk C)
+      → Ran (Turn meaning puts rests) made bs n start d index lines d' → Led d d'
+  ran_led (Ok done) bs n start d index lines d' ran = made_led ran.made
+  ran_led (Err stop) bs n start d index lines d' ran = subst (Led d) (sym ran.stopped.desk) (made_led ran.made)
 
 -- one step more
-pub made_more : {bs : List ℕ} {n : ℕ} {start : List ℕ} {w : Moment Job} {i index index' : ℕ} {lines lines' : List ℕ} {u u' : Moment Job}
-    → MadeSteps bs n start w i index lines u → index' ≡ next_index index → Stepped (step_bytes bs i) index lines u lines' u' → MadeSteps bs n start w (i + 1) index' lines' u'
-made_more {bs} {n} {start} {w} {i} {lines'} {u'} made' next step = subst (λ k. MadeSteps bs n start w (i + 1) k lines' u') (sym next) (more made' step)
+pub made_more : {D : Type 0} {turns : ℕ → Call → D → Result Outcome Refusal → D → Type 0} {bs : List ℕ} {n : ℕ} {start : List ℕ} {d : D} {i index index' : ℕ} {lines lines' : List ℕ} {e e' : D}
+    → MadeSteps turns bs n start d i index lines e → index' ≡ next_index index → Stepped turns (step_bytes bs i) index lines e lines' e' → MadeSteps turns bs n start d (i + 1) index' lines' e'
+made_more {turns} {bs} {n} {start} {d} {i} {lines'} {e'} made' next step = subst (λ k. MadeSteps turns bs n start d (i + 1) k lines' e') (sym next) (more made' step)
 
 -- only eight bytes are a step
 not_bad : (seat : ℕ) (call : Call) → ¬ (call_brought seat call ≡ bad)
@@ -64,15 +138,5 @@ tested : (test : Bool) (seat : ℕ) (call : Call) (brought : Brought) → call_b
 tested true seat call brought e = refl
 tested false seat call brought e = absurd (not_bad seat call e)
 
-pub eight : (step : Step) (bs : List ℕ) → step_brought (Ok step) ≡ step_of bs → length bs ≡ 8
+pub eight : (step : steps.Step) (bs : List ℕ) → step_brought (Ok step) ≡ step_of bs → length bs ≡ 8
 eight step bs read = eqb-true (length bs) 8 (tested (length bs == 8) step.seat step.call _ read)
-
-made_led : {bs : List ℕ} {n : ℕ} {start : List ℕ} {w : Moment Job} {i index : ℕ} {lines : List ℕ} {u : Moment Job} → MadeSteps bs n start w i index lines u → Led w u
-made_led none = led_nowhere _
-made_led (more before step) = led_on _ _ _ (made_led before) (turn_led step.step.seat step.step.call _ step.outcome _ step.turn)
-
--- whatever was read, the steps lead on
-pub ran_led : (made : Result (Unit {0}) NoStep) (bs : List ℕ) (n : ℕ) (start : List ℕ) (w : Moment Job) (index : ℕ) (lines : List ℕ) (w' : Moment Job)
-    → Ran made bs n start w index lines w' → Led w w'
-ran_led (Ok done) bs n start w index lines w' ran = made_led ran.made
-ran_led (Err stop) bs n start w index lines w' ran = subst (Led w) (sym ran.stopped.room) (made_led ran.made)

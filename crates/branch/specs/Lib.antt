@@ -1,5 +1,6 @@
 pub mod Steps
-pub mod Turns
 pub mod Lines
 pub mod Desks
+pub mod Turns
 pub mod Runs
+pub mod Keeping

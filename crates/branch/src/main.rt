@@ -1,21 +1,20 @@
 // A box to try: a job room of three seats on lines.
 #![tactic(auto)]
 
-ghost use Rattle.std.specs.Prelude.{◌≡◌, IfOk, IfSome, OnOk, [], length};
+ghost use Rattle.std.specs.Prelude.{◌≡◌, OnOk, []};
 ghost use Rattle.std.specs.Io.KnownBytes.{Appends};
 ghost use Rattle.carriers.specs.Lines.{lines_of};
-ghost use Rattle.carriers.specs.Meaning.{Empty};
 ghost use Rattle.lives.specs.Worked.{Worked};
-ghost use Rattle.rooms.specs.Drafts.{opened};
-ghost use Rattle.rooms.specs.States.{state};
-ghost use Rattle.branch.specs.Desks.{standing, three_seats};
-ghost use Rattle.branch.specs.Lines.{log_lines};
-ghost use Rattle.branch.specs.Runs.{Filled, KeptOn, Led, Printed};
+ghost use Rattle.branch.specs.Desks.{JustOpened, all_log_lines, standing};
+ghost use Rattle.branch.specs.Keeping.{Finished};
+ghost use Rattle.branch.specs.Runs.{Printed};
+ghost use Rattle.branch.specs.Turns.{Turn};
 
 use crate::desk::Desk;
 use crate::line::add_log;
 use carriers::carrier::Carrier;
 use carriers::lines::Lines;
+use chunks::fill;
 use letters::job::Job;
 use letters::letter::Letter;
 use letters::stamp::Stamp;
@@ -35,25 +34,6 @@ mod step;
 // How many bytes are held at a time: whole steps.
 const CHUNK: usize = 512;
 
-// Fills the chunk as far as the input goes, and answers how many bytes it has.
-fn fill<R: Read>(input: &mut R, chunk: &mut [u8]) -> io::Result<usize>
-    ensures { IfOk result (λ n. Filled (R.remaining input.old) (R.remaining input.new) chunk.new n) }
-{
-    let mut at = 0;
-    // The bound is there only because every loop has to end, here and below.
-    for _ in 0..u64::MAX {
-        if at >= chunk.len() {
-            return Ok(at);
-        }
-        let n = input.read(&mut chunk[at..])?;
-        if n == 0 {
-            return Ok(at);
-        }
-        at += n;
-    }
-    Err(io::Error::from(io::ErrorKind::InvalidInput))
-}
-
 // Makes the steps of an input of any length, chunk by chunk, and writes their lines, and nothing else.
 fn drive<C: Carrier<Body = Job>, R: Read, W: Write>(
     alloc: Global,
@@ -61,12 +41,12 @@ fn drive<C: Carrier<Body = Job>, R: Read, W: Write>(
     output: &mut W,
     desk: &mut Desk<'_, '_, C>,
 ) -> io::Result<()>
-    ensures led { OnOk result (Led (standing C.Carrier.meaning desk.old) (standing C.Carrier.meaning desk.new)) }
-    ensures printed { OnOk result (IfSome (R.remaining input.old) (λ bytes. Printed bytes (standing C.Carrier.meaning desk.old) (W.contents output.old) (W.contents output.new) (standing C.Carrier.meaning desk.new))) }
+    ensures { OnOk result (Printed (Turn C.Carrier.meaning C.Carrier.puts C.Carrier.rests) (R.remaining input.old) desk.old (W.contents output.old) (W.contents output.new) desk.new) }
 {
     let mut held = [0; CHUNK];
     let mut lines = String::new(alloc);
     let mut index = 0;
+    // The bound is there only because every loop has to end.
     for _ in 0..u64::MAX {
         lines.clear();
         let read = fill(input, &mut held)?;
@@ -79,22 +59,9 @@ fn drive<C: Carrier<Body = Job>, R: Read, W: Write>(
     Err(io::Error::from(io::ErrorKind::InvalidInput))
 }
 
-// The same, from the standard input to the standard output. Of a room that was opened and not yet worked, the logs are then
-// in causal order, they are complete where nothing is on its way, and logs of the same letters make the same sheet, of every
-// kind that has jobs.
-fn run<K: Sheet<Body = Job>, C: Carrier<Body = Job>>(
-    rt: &HostRuntime,
-    desk: &mut Desk<'_, '_, C>,
-) -> io::Result<()>
-    requires { Worked [] (standing C.Carrier.meaning desk.old) }
-    ensures { OnOk result (KeptOn K.Sheet.kind (standing C.Carrier.meaning desk.new)) }
-{
-    drive(rt.alloc(), &mut rt.stdin(), &mut io::writer(rt), desk)
-}
-
 // Prints the logs of all seats.
 fn print_logs<C, W: Write>(alloc: Global, output: &mut W, desk: &Desk<'_, '_, C>) -> io::Result<()>
-    ensures { OnOk result (Appends (W.contents output.old) (W.contents output.new) (log_lines (state desk.now.room) desk.now.logs.now (length desk.now.holds.now) (state desk.now.room).count)) }
+    ensures { OnOk result (Appends (W.contents output.old) (W.contents output.new) (all_log_lines desk.now)) }
 {
     let mut lines = String::new(alloc);
     // No room has more seats, and a seat that this one lacks has no log.
@@ -112,9 +79,8 @@ fn open_room<'l, 'h, 'q>(
     holds: &'h mut [Letter<Job>; 36],
     queues: &'q mut [Letter<Job>; 12],
 ) -> Desk<'l, 'h, Lines<'q, Job>>
-    ensures room { state result.room ≡ opened three_seats }
+    ensures opened { JustOpened result }
     ensures tables { (result.logs.now ≡ logs.old) × (result.holds.now ≡ holds.old) }
-    ensures lines { ((lines_of result.carrier).seats ≡ 3) × (result.carrier.size ≡ 4) × Empty (lines_of result.carrier) }
     ensures worked { Worked [] (standing lines_of result) }
 {
     let mut draft = Draft::new(1, 4);
@@ -132,12 +98,25 @@ fn open_room<'l, 'h, 'q>(
     }
 }
 
-fn main(rt: HostRuntime) -> io::Result<()> {
+// The program: opens the room, makes the steps of the input, and writes their lines and then the logs. The logs are in causal
+// order, they are complete where nothing is on its way, and logs of the same letters make the same sheet, of every kind that
+// has jobs.
+fn run<K: Sheet<Body = Job>, R: Read, W: Write>(
+    alloc: Global,
+    input: &mut R,
+    output: &mut W,
+) -> io::Result<()>
+    ensures { OnOk result (Finished K.Sheet.kind (R.remaining input.old) (W.contents output.old) (W.contents output.new)) }
+{
     let blank = Letter::make(Stamp { entries: [1; 16] }, 0, Job::Add(0));
     let mut logs = [blank; 36];
     let mut holds = [blank; 36];
     let mut queues = [blank; 12];
     let mut desk = open_room(&mut logs, &mut holds, &mut queues);
-    run::<JobList, Lines<Job>>(&rt, &mut desk)?;
-    print_logs(rt.alloc(), &mut io::writer(&rt), &desk)
+    drive(alloc, input, output, &mut desk)?;
+    print_logs(alloc, output, &desk)
+}
+
+fn main(rt: HostRuntime) -> io::Result<()> {
+    run::<JobList, _, _>(rt.alloc(), &mut rt.stdin(), &mut io::writer(&rt))
 }

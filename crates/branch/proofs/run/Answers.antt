@@ -1,5 +1,5 @@
-use Rattle.branch.proofs.Leading.{made_keeps}
+use Rattle.branch.proofs.Finishing.{finished}
 use Rattle.branch.proofs.run.Goals as goal
 
 pub returns : goal.returns
-returns g c = made_keeps g.K.Sheet.kind g.met.K.Sheet.lawful c.drive.result _ _ c.requires c.drive.ensures.led
+returns g c = finished g.K.Sheet.kind g.met.K.Sheet.lawful _ _ _ _ _ _ c.open_room-desk.ensures.opened c.open_room-desk.ensures.worked c.in_ok-drive.ensures c.print_logs.result c.print_logs.ensures

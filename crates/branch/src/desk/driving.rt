@@ -4,7 +4,6 @@ ghost use Rattle.seats.specs.declared.seat.DocketEvent.TheVariants.{Park};
 ghost use Rattle.seats.specs.Outcomes.{docket_room, good_slip, park_answer};
 ghost use Rattle.lives.specs.declared.moves.Move.TheVariants.{Collect, Post, Show, Take};
 ghost use Rattle.rooms.specs.States.{slip, state};
-ghost use Rattle.branch.specs.Desks.{standing};
 ghost use Rattle.branch.specs.Turns.{Dispatched, Follows, Turn, docket_calls, show_calls, take_calls};
 
 use crate::desk::Desk;
@@ -18,7 +17,7 @@ use rooms::docket::{Docket, Returned};
 impl<C: Carrier<Body = Job>> Desk<'_, '_, C> {
     // Makes one step, and answers what it came to. A docket is sent at once, and parked where that is refused.
     pub fn make_step(&mut self, step: Step) -> Result<Outcome, Refusal>
-        ensures { Turn step.seat step.call (standing C.Carrier.meaning self.old) result (standing C.Carrier.meaning self.new) }
+        ensures { Turn C.Carrier.meaning C.Carrier.puts C.Carrier.rests step.seat step.call self.old result self.new }
     {
         match step.call {
             Call::Post(job) => self.post(step.seat, job?),
@@ -29,7 +28,7 @@ impl<C: Carrier<Body = Job>> Desk<'_, '_, C> {
     }
 
     fn post(&mut self, seat: u8, job: Job) -> Result<Outcome, Refusal>
-        ensures { Follows (docket_calls (Post seat job) result) (standing C.Carrier.meaning self.old) (standing C.Carrier.meaning self.new) }
+        ensures { Follows C.Carrier.meaning C.Carrier.puts C.Carrier.rests (docket_calls (Post seat job) result) self.old self.new }
     {
         // A table goes as `&` through a variable: the check has no rule for a `&mut` field lent as `&` beside one lent as `&mut`.
         let holds = &mut *self.holds;
@@ -38,7 +37,7 @@ impl<C: Carrier<Body = Job>> Desk<'_, '_, C> {
     }
 
     fn collect(&mut self, seat: u8) -> Result<Outcome, Refusal>
-        ensures { Follows (docket_calls (Collect seat) result) (standing C.Carrier.meaning self.old) (standing C.Carrier.meaning self.new) }
+        ensures { Follows C.Carrier.meaning C.Carrier.puts C.Carrier.rests (docket_calls (Collect seat) result) self.old self.new }
     {
         let docket = self.room.collect(seat)?;
         Ok(self.dispatch(docket))
@@ -47,7 +46,7 @@ impl<C: Carrier<Body = Job>> Desk<'_, '_, C> {
     // Sends a docket that is out at the room, or parks it.
     fn dispatch(&mut self, docket: Docket) -> Outcome
         requires { good_slip (state self.old.room) (slip docket) ≡ true }
-        ensures { Dispatched (slip docket) (standing C.Carrier.meaning self.old) result (standing C.Carrier.meaning self.new) }
+        ensures { Dispatched C.Carrier.meaning C.Carrier.puts C.Carrier.rests (slip docket) self.old result self.new }
     {
         let slip = docket.slip();
         let logs = &mut *self.logs;
@@ -62,7 +61,7 @@ impl<C: Carrier<Body = Job>> Desk<'_, '_, C> {
     }
 
     fn take(&mut self, seat: u8, place: u16) -> Result<Outcome, Refusal>
-        ensures { Follows (take_calls (Take seat place) result) (standing C.Carrier.meaning self.old) (standing C.Carrier.meaning self.new) }
+        ensures { Follows C.Carrier.meaning C.Carrier.puts C.Carrier.rests (take_calls (Take seat place) result) self.old self.new }
     {
         let logs = &mut *self.logs;
         let taken = self.room.take(logs, self.holds, &mut self.carrier, seat, u32::from(place))?;
@@ -70,7 +69,7 @@ impl<C: Carrier<Body = Job>> Desk<'_, '_, C> {
     }
 
     fn show(&mut self, seat: u8) -> Result<Outcome, Refusal>
-        ensures { Follows (show_calls (Show seat) result) (standing C.Carrier.meaning self.old) (standing C.Carrier.meaning self.new) }
+        ensures { Follows C.Carrier.meaning C.Carrier.puts C.Carrier.rests (show_calls (Show seat) result) self.old self.new }
     {
         let id = self.room.show(self.logs, self.holds, seat)?;
         Ok(Outcome::Shown(id))
