@@ -1,2 +1,3 @@
 pub mod Found
-mod Holding
+pub mod Holding
+pub mod Pieces

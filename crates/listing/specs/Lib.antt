@@ -1,3 +1,4 @@
 pub mod Lines
 pub mod Stepping
-pub mod Holding
+pub mod Listings
+pub mod Asking

@@ -10,7 +10,8 @@ use Rattle.letters.specs.Letters.{entry_at}
 use Rattle.letters.specs.Names.{name_text}
 use Rattle.letters.specs.Texts.{text_bytes}
 use Rattle.records.specs.Readers.{Found, at_end, right, wrong}
-use Rattle.records.specs.Records.{parts_written, record_size}
+use Rattle.records.specs.declared.record.TheConstants.{RECORD_SIZE}
+use Rattle.records.specs.Records.{parts_written}
 
 -- a comma and a number
 abbrev pub after_comma : ℕ → List ℕ
@@ -47,5 +48,5 @@ count_line n = decimal n ++ codes " letters\n"
 -- what a listing does at a record: a letter's line, a fault's line, or nothing at the end
 abbrev pub step_line : {B : Type 0} → Form B → (B → List ℕ) → ℕ → List ℕ → Found → List ℕ
 step_line form says index bs at_end = []
-step_line form says index bs right = letter_line says index (parts_written form (take record_size bs))
+step_line form says index bs right = letter_line says index (parts_written form (take RECORD_SIZE bs))
 step_line form says index bs (wrong byte) = bad_line index byte

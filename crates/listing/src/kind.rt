@@ -1,5 +1,6 @@
 // The kinds of bodies, as the program is asked for them.
-ghost use Rattle.std.specs.Prelude.{◌≡◌, ◌↔◌, Ok, codes};
+ghost use Rattle.std.specs.Prelude.{◌≡◌, ◌↔◌, Ok, Some, codes};
+ghost use Rattle.listing.specs.Asking.{AsksJobs, AsksTexts};
 ghost use Rattle.listing.specs.declared.kind.Kind.TheVariants.{Job, Text};
 
 use std::str::FromStr;
@@ -26,5 +27,16 @@ impl FromStr for Kind {
             "job" => Ok(Kind::Job),
             _ => Err(UnknownKind),
         }
+    }
+}
+
+// Which kind of body the arguments ask for: behind the program's name there is one word, and it names a kind.
+pub fn kind_asked(args: &[String]) -> Option<Kind>
+    ensures text { (result ≡ Some Text) ↔ AsksTexts args.now }
+    ensures job { (result ≡ Some Job) ↔ AsksJobs args.now }
+{
+    match args {
+        [_program, word] => word.as_str().parse().ok(),
+        _ => None,
     }
 }

@@ -1,12 +1,19 @@
 // Lists a file of letter records, or says where it is damaged.
 #![tactic(auto)]
 
-ghost use Rattle.std.specs.Prelude.{IfOk, string_bytes};
-ghost use Rattle.listing.specs.Holding.{HeldListed};
+ghost use Rattle.std.specs.Prelude.{◌≡◌, ◌↔◌, IfOk, OnOk, Err, string_bytes};
+ghost use Rattle.letters.specs.Jobs.{job_form};
+ghost use Rattle.letters.specs.Texts.{text_form};
+ghost use Rattle.listing.specs.Asking.{AsksForNone, AsksJobs, AsksTexts};
+ghost use Rattle.listing.specs.Lines.{job_says, text_says};
+ghost use Rattle.listing.specs.Listings.{HeldListed, Lists};
+ghost use Rattle.listing.specs.declared.failure.Failure.TheVariants.{Usage};
 
-use crate::kind::Kind;
+use crate::failure::Failure;
+use crate::kind::{Kind, kind_asked};
 use crate::line::{Say, add_count};
 use crate::stepping::add_next;
+use chunks::fill;
 use letters::body::Body;
 use letters::job::Job;
 use letters::parts::Parts;
@@ -15,20 +22,18 @@ use letters::text::Text;
 use records::fault::Fault;
 use records::reader::Reader;
 use records::record::RECORD_SIZE;
-use std::alloc::AllocError;
-use std::io::Read;
+use std::alloc::{AllocError, Global};
+use std::io::{Read, Write};
 use std::process::ExitCode;
 use std::{env, io};
 
+mod failure;
 mod kind;
 mod line;
 mod stepping;
 
-// How many records are held at a time.
-const HELD: usize = 64;
-
-// How many bytes they have.
-const CHUNK: usize = HELD * RECORD_SIZE;
+// How many bytes are held at a time: 64 whole records.
+const CHUNK: usize = 64 * RECORD_SIZE;
 
 // Adds the lines of the records that are held, up to a fault, which ends the listing.
 fn add_held<B: Say>(
@@ -37,74 +42,90 @@ fn add_held<B: Say>(
     parts: &mut Parts<B>,
     lines: &mut String,
 ) -> Result<Result<(), Fault>, AllocError>
-    ensures { IfOk result (λ ended. HeldListed B.form B.says 64 bytes.now letters.old (string_bytes lines.old) ended letters.new (string_bytes lines.new)) }
+    ensures { IfOk result (λ ended. HeldListed B.form B.says bytes.now letters.old (string_bytes lines.old) ended letters.new (string_bytes lines.new)) }
 {
     let mut reader = Reader::new(bytes);
-    for _ in 0..HELD {
-        match add_next(&mut reader, *letters, parts, lines)? {
-            Ok(Some(_)) => *letters = letters.saturating_add(1),
-            Ok(None) => break,
-            Err(fault) => return Ok(Err(fault)),
+    let mut count = *letters;
+    let ended = loop {
+        match add_next(&mut reader, count, parts, lines)? {
+            Ok(Some(_)) => count = count.saturating_add(1),
+            Ok(None) => break Ok(()),
+            Err(fault) => break Err(fault),
         }
-    }
-    Ok(Ok(()))
+    };
+    *letters = count;
+    Ok(ended)
 }
 
-// Lists the standard input, which may be of any length. The body given is any of its kind.
-fn list<B: Say>(rt: &HostRuntime, body: B) -> io::Result<()> {
-    let mut held = Vec::with_capacity(rt.alloc(), CHUNK)?;
-    let mut lines = String::new(rt.alloc());
+// Lists an input of any length, chunk by chunk, and writes nothing else. The body given is any of its kind.
+fn list<B: Say, R: Read, W: Write>(
+    alloc: Global,
+    input: &mut R,
+    output: &mut W,
+    body: B,
+) -> io::Result<()>
+    ensures { OnOk result (Lists B.form B.says (R.remaining input.old) (W.contents output.old) (W.contents output.new)) }
+{
+    let mut held = [0; CHUNK];
+    let mut lines = String::new(alloc);
     let mut letters = 0;
     let mut parts = Parts {
         stamp: Stamp { entries: [0; 16] },
         poster: 0,
         body,
     };
-    // The bound is there only because every loop has to end. `branch` has a loop like this one; what each does with a chunk,
-    // and what it keeps by that, is its own.
+    // The bound is there only because every loop has to end.
     for _ in 0..u64::MAX {
-        held.clear();
         lines.clear();
-        rt.stdin().take(CHUNK as u64).read_to_end(&mut held)?;
-        let listed = add_held(held.as_slice(), &mut letters, &mut parts, &mut lines)?;
-        rt.print(&lines)?;
-        if listed.is_err() || held.len() < CHUNK {
-            break;
+        let read = fill(input, &mut held)?;
+        let listed = add_held(&held[..read], &mut letters, &mut parts, &mut lines)?;
+        if listed.is_err() || read < CHUNK {
+            add_count(&mut lines, letters)?;
+            return output.write_all(lines.as_bytes());
         }
+        output.write_all(lines.as_bytes())?;
     }
-    lines.clear();
-    add_count(&mut lines, letters)?;
-    rt.print(&lines)
+    Err(io::Error::from(io::ErrorKind::InvalidInput))
 }
 
-// Which kind of body the one argument asks for.
-fn kind_asked(rt: &HostRuntime) -> Option<Kind> {
-    let mut args = env::args(rt).ok()?;
-    let _program = args.next();
-    match (args.next(), args.next()) {
-        (Some(word), None) => word.as_str().parse().ok(),
-        _ => None,
-    }
-}
-
-// Lists what the arguments ask for, or says how the program is used.
-fn list_asked(rt: &HostRuntime) -> io::Result<()> {
-    match kind_asked(rt) {
-        Some(Kind::Job) => list(rt, Job::Add(0)),
-        Some(Kind::Text) => list(rt, Text::default()),
-        None => {
-            eprintln!(rt;
-                "usage: listing text|job < FILE (the kind of body that the letters have)"
-            )?;
-            Err(io::Error::from(io::ErrorKind::InvalidInput))
-        }
+// Lists an input as the arguments ask, of which the first is the program's name. Where they ask for no kind of body, nothing
+// is read or written.
+fn list_asked<R: Read, W: Write>(
+    alloc: Global,
+    args: &[String],
+    input: &mut R,
+    output: &mut W,
+) -> Result<(), Failure>
+    ensures texts { AsksTexts args.now → OnOk result (Lists text_form text_says (R.remaining input.old) (W.contents output.old) (W.contents output.new)) }
+    ensures jobs { AsksJobs args.now → OnOk result (Lists job_form job_says (R.remaining input.old) (W.contents output.old) (W.contents output.new)) }
+    ensures usage { (result ≡ Err Usage) ↔ AsksForNone args.now }
+    ensures untouched { AsksForNone args.now → (input.new ≡ input.old) × (output.new ≡ output.old) }
+{
+    match kind_asked(args) {
+        Some(Kind::Text) => Ok(list(alloc, input, output, Text::default())?),
+        Some(Kind::Job) => Ok(list(alloc, input, output, Job::Add(0))?),
+        None => Err(Failure::Usage),
     }
 }
 
-// An error ends the program with status 1, and nothing more is printed.
+// The same, from the standard input to the standard output, by the program's own arguments.
+fn run(rt: &HostRuntime) -> Result<(), Failure> {
+    let args = match env::args(rt) {
+        Ok(args) => args.collect::<Vec<String>>(rt.alloc())?,
+        // An argument that is no text names no kind.
+        Err(e) if e.kind() == io::ErrorKind::InvalidData => return Err(Failure::Usage),
+        Err(e) => return Err(Failure::Io(e)),
+    };
+    list_asked(rt.alloc(), &args, &mut rt.stdin(), &mut io::writer(rt))
+}
+
+// A failure is told on the standard error, and ends the program with status 1.
 fn main(rt: HostRuntime) -> ExitCode {
-    match list_asked(&rt) {
+    match run(&rt) {
         Ok(()) => ExitCode::SUCCESS,
-        Err(_) => ExitCode::FAILURE,
+        Err(why) => {
+            let _ = eprintln!(rt; "{why}");
+            ExitCode::FAILURE
+        }
     }
 }

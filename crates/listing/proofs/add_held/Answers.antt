@@ -1,56 +1,47 @@
-use Rattle.std.proofs.Common.{◌≡◌, ℕ, suc, ◌+◌, ◌-◌, ◌*◌, Some, None, Ok, Err, string_bytes, drop, drop-drop, sym, ap, ◌∙◌, subst, arith}
-use Rattle.records.specs.Readers.{ahead, at_end, found, next_index, right, wrong}
-use Rattle.listing.proofs.Found.{found_told}
-use Rattle.listing.proofs.Holding.{Left, none_left, one_end, one_right, one_wrong}
+use Rattle.std.proofs.Common.{◌≡◌, ℕ, ◌*◌, ◌≤◌, ◌^◌, ◌-◌, Some, None, Ok, Err, Result, Option, string_bytes, drop, sym, ap, ◌∙◌, arith}
+use Rattle.records.specs.declared.fault.Fault.{Fault}
+use Rattle.records.specs.Faults.{told_fault}
+use Rattle.records.specs.declared.record.TheConstants.{RECORD_SIZE}
+use Rattle.records.specs.Readers.{ahead, at_end, found, right, wrong}
+use Rattle.listing.proofs.Found.{fault_at, fewer_left, found_told, one_read}
+use Rattle.listing.proofs.Holding.{all_listed, begin, fault_listed, one_more}
 use Rattle.listing.proofs.add_held.Goals as goal
 
-pub returns-in-Err : goal.returns-in-Err
-returns-in-Err g c =
-    let form = g.B.Body.form in
-    let says = g.B.Say.says in
-    let bs = ahead c.loop.reader in
-    let k : ℕ = 63 - c.loop.counter in
-    let n : 64 - c.loop.counter ≡ suc k = omega (arith, c.loop-test.true) in
-    let made = c.in_ok-add_next.ensures in
-    let is : found form bs ≡ wrong c.in-Err.fault.byte = found_told _ _ _ (Err c.in-Err.fault) made.answer c.in-Err.is in
-    let left = subst (λ x. Left form says 64 c.args.bytes.now c.args.letters.now (string_bytes c.args.lines.now) x bs c.loop.letters (string_bytes c.loop.lines)) n c.loop.invariant in
-    one_wrong form says 64 c.args.bytes.now c.args.letters.now (string_bytes c.args.lines.now) k bs c.loop.letters (string_bytes c.loop.lines) (string_bytes c.add_next.new.line) c.in-Err.fault.byte c.in-Err.fault left is made.line
-
-pub loop-preserved : goal.loop-preserved
-loop-preserved g c =
-    let form = g.B.Body.form in
-    let says = g.B.Say.says in
-    let i = c.loop.reader.index in
-    let bytes = c.loop.reader.bytes.now in
-    let bs = ahead c.loop.reader in
-    let k : ℕ = 63 - c.loop.counter in
-    let n : 64 - c.loop.counter ≡ suc k = omega (arith, c.loop-test.true) in
-    let made = c.in_ok-add_next.ensures in
-    let is : found form bs ≡ right = found_told _ _ _ (Ok (Some c.in-Ok-Some.field-0-0)) made.answer cc in
-    let moved : c.add_next.new.reader.index ≡ i + 1 = made.reads.reads.moved ∙ ap (next_index i) is in
-    let lent : c.add_next.new.reader.bytes.now ≡ bytes = ap (λ b. b.now) made.reads.reads.lent in
-    let sum : 96 * (i + 1) ≡ 96 * i + 96 = omega arith in
-    let on : ahead c.add_next.new.reader ≡ drop 96 bs =
-    ap (λ j. drop (96 * j) c.add_next.new.reader.bytes.now) moved ∙ ap (drop (96 * (i + 1))) lent
-    ∙ ap (λ j. drop j bytes) sum ∙ sym (drop-drop 96 (96 * i) bytes) in
-    let left = subst (λ x. Left form says 64 c.args.bytes.now c.args.letters.now (string_bytes c.args.lines.now) x bs c.loop.letters (string_bytes c.loop.lines)) n c.loop.invariant in
-    let next : 64 - (c.loop.counter + 1) ≡ k = omega (arith, c.loop-test.true) in
-    subst (λ x. Left form says 64 c.args.bytes.now c.args.letters.now (string_bytes c.args.lines.now) x (ahead c.add_next.new.reader) c.saturating_add.result (string_bytes c.add_next.new.line)) (sym next)
-    (one_right form says 64 c.args.bytes.now c.args.letters.now (string_bytes c.args.lines.now) k bs (ahead c.add_next.new.reader) c.loop.letters c.saturating_add.result (string_bytes c.loop.lines) (string_bytes c.add_next.new.line) left is made.line on c.saturating_add.ensures)
-
-pub returns-after-loop : goal.returns-after-loop
-returns-after-loop g c =
-    let none : 64 - c.loop.counter ≡ 0 = omega (arith, c.loop-test.false) in
-    none_left g.B.Body.form g.B.Say.says 64 c.args.bytes.now c.args.letters.now (string_bytes c.args.lines.now) (64 - c.loop.counter) (ahead c.loop.reader) c.loop.letters (string_bytes c.loop.lines) c.loop.invariant none
+pub loop-count-init : goal.loop-count-init
+loop-count-init g c =
+    let start : ahead c.new-reader.result ≡ c.args.bytes.now = ap (λ i. drop (RECORD_SIZE * i) c.new-reader.result.bytes.now) c.new-reader.ensures.start ∙ c.new-reader.ensures.lent in
+    let fits : c.args.letters.now ≤ 2 ^ 64 - 1 = omega arith in
+    begin g.B.Body.form g.met.B.Body.lawful g.B.Say.says c.args.bytes.now (ahead c.new-reader.result) c.args.letters.now (string_bytes c.args.lines.now) c.new-reader.result.index fits start c.new-reader.ensures.start
 
 pub returns-in-Ok-None : goal.returns-in-Ok-None
 returns-in-Ok-None g c =
     let form = g.B.Body.form in
-    let says = g.B.Say.says in
-    let bs = ahead c.loop.reader in
-    let k : ℕ = 63 - c.loop.counter in
-    let n : 64 - c.loop.counter ≡ suc k = omega (arith, c.loop-test.true) in
     let made = c.in_ok-add_next.ensures in
-    let is : found form bs ≡ at_end = found_told _ _ _ (Ok None) made.answer cc in
-    let left = subst (λ x. Left form says 64 c.args.bytes.now c.args.letters.now (string_bytes c.args.lines.now) x bs c.loop.letters (string_bytes c.loop.lines)) n c.loop.invariant in
-    one_end form says 64 c.args.bytes.now c.args.letters.now (string_bytes c.args.lines.now) k bs c.loop.letters (string_bytes c.loop.lines) (string_bytes c.add_next.new.line) left is made.line
+    let is : found form (ahead c.loop-count.reader) ≡ at_end = found_told _ _ _ (Ok None) made.answer cc in
+    all_listed form g.met.B.Body.lawful g.B.Say.says _ _ _ _ _ _ _ _ c.loop-count.invariant made.line is
+
+pub returns-in-Err : goal.returns-in-Err
+returns-in-Err g c =
+    let form = g.B.Body.form in
+    let made = c.in_ok-add_next.ensures in
+    let bs = ahead c.loop-count.reader in
+    let is : found form bs ≡ wrong c.in-Err.fault.byte = found_told _ _ _ (Err c.in-Err.fault) made.answer c.in-Err.is in
+    let at : c.in-Err.fault.index ≡ c.loop-count.reader.index =
+    fault_at c.loop-count.reader.index (found form bs) c.in-Err.fault (ap (λ (r : Result (Option ℕ) Fault). told_fault r) (sym c.in-Err.is) ∙ made.answer) in
+    fault_listed form g.met.B.Body.lawful g.B.Say.says _ _ _ _ _ _ _ _ c.loop-count.invariant made.line c.in-Err.fault at is
+
+pub loop-count-preserved : goal.loop-count-preserved
+loop-count-preserved g c =
+    let form = g.B.Body.form in
+    let made = c.in_ok-add_next.ensures in
+    let is : found form (ahead c.loop-count.reader) ≡ right = found_told _ _ _ (Ok (Some c.in-Ok-Some.field-0-0)) made.answer cc in
+    let one = one_read form c.loop-count.reader c.add_next.new.reader _ _ made.reads.read made.reads.reads is in
+    one_more form g.met.B.Body.lawful g.B.Say.says _ _ _ _ _ _ _ _ c.loop-count.invariant made.line one.letter one.begins is _ one.moved _ one.later _ c.saturating_add-count.ensures
+
+pub loop-count-smaller : goal.loop-count-smaller
+loop-count-smaller g c =
+    let form = g.B.Body.form in
+    let made = c.in_ok-add_next.ensures in
+    let is : found form (ahead c.loop-count.reader) ≡ right = found_told _ _ _ (Ok (Some c.in-Ok-Some.field-0-0)) made.answer cc in
+    let one = one_read form c.loop-count.reader c.add_next.new.reader _ _ made.reads.read made.reads.reads is in
+    fewer_left form c.loop-count.reader c.add_next.new.reader one

@@ -1,7 +1,10 @@
-use Rattle.std.proofs.Common.{string_bytes, ◌-◌}
+use Rattle.std.proofs.Common.{string_bytes, length}
 use Rattle.records.specs.Readers.{ahead}
-use Rattle.listing.proofs.Holding.{Left}
+use Rattle.listing.proofs.Holding.{SoFar}
 use Rattle.listing.proofs.add_held.Given as goal
 
-abbrev pub invariant-loop : goal.invariant-loop
-invariant-loop g l = Left g.B.Body.form g.B.Say.says 64 l.fn.bytes l.fn.letters (string_bytes l.fn.lines) (64 - l.counter) (ahead l.reader) l.letters (string_bytes l.lines)
+abbrev pub invariant-loop-count : goal.invariant-loop-count
+invariant-loop-count g l = SoFar g.B.Body.form g.met.B.Body.lawful g.B.Say.says l.fn.bytes l.fn.letters (string_bytes l.fn.lines) l.reader.index (ahead l.reader) l.count (string_bytes l.lines)
+
+abbrev pub decreases-loop-count : goal.decreases-loop-count
+decreases-loop-count g l = length (ahead l.reader)
