@@ -13,7 +13,7 @@ use Rattle.rooms.specs.Drafts.{DraftState, drafted, enrol_answer, enrol_check, e
 use Rattle.sheets.specs.declared.open_job.OpenJob.{OpenJob}
 use Rattle.sheets.specs.JobLists.{job_does, open_job}
 use Rattle.sheets.specs.Pages.{page_count}
-use Rattle.spool.specs.Masks.{all_but}
+use Rattle.spool.specs.Masks.{all_but, full, seats_marked}
 use Rattle.spool.specs.Rows.{row_fits, spool_answer}
 
 abbrev stamp3 : ℕ → ℕ → ℕ → Stamp
@@ -43,6 +43,8 @@ pub data Case : Type 0 where
   does_cover : (m : Letter Job) (p n : ℕ) (answer : Bool) → Case
   -- with this many seats, what mask does a row of this poster begin with, and how many seats have yet to draw it?
   begins_with : (seats poster mask draws : ℕ) → Case
+  -- which mask marks all of so many seats? its ones are as many
+  marks_all : (seats mask : ℕ) → Case
   -- with which number is a spool of so many bytes for five seats refused, 0 being a yes?
   spool_refused : (bytes number : ℕ) → Case
   -- how many rows does a spool of so many bytes hold?
@@ -81,6 +83,7 @@ holds (is_ready clock m answer) = agree (ready 3 4 2 clock m) answer
 holds (are_beside m k answer) = agree (side_by_side m k) answer
 holds (does_cover m p n answer) = agree (covers m.stamp p n) answer
 holds (begins_with seats poster mask draws) = all_but seats poster == mask && count_ones mask == draws
+holds (marks_all seats mask) = full seats == mask && (count_ones mask == seats && seats_marked mask 16 == seats)
 holds (spool_refused bytes number) = no_number (spool_answer 5 bytes) == number
 holds (spool_holds bytes rows) = row_fits (rows - 1) bytes && not (row_fits rows bytes)
 holds (leaves_jobs before m after) = same_jobs (job_does m.body m before) after
@@ -97,6 +100,8 @@ cases =
     ∷ are_beside (letter3 some_job 0 1 0 0 tt tt) (letter3 some_job 1 0 1 0 tt tt) true
     ∷ does_cover (letter3 some_job 1 1 1 0 tt tt) 0 1 true
     ∷ begins_with 5 2 27 4
+    ∷ begins_with 16 0 65534 15
+    ∷ marks_all 16 65535
     ∷ spool_refused 97 5
     ∷ spool_refused 98 0
     ∷ spool_holds 195 1
