@@ -1,7 +1,8 @@
 // Runs a job room on a pair of lines and a spool, by steps of twelve bytes, and prints what each replied, the logs, and the
-// job list of each seat.
+// job list of each seat. With the argument `calls` it runs scripts of single calls instead.
 #![tactic(auto)]
 
+use crate::calls::memory::life::site::scripts::run_scripts;
 use carriers::carrier::Carrier;
 use carriers::lines::Lines;
 use letters::body::Body;
@@ -14,13 +15,15 @@ use lives::reply::Reply;
 use pair::Pair;
 use rooms::draft::Draft;
 use rooms::room::Room;
-use rooms::run::{self, Ended};
+use rooms::run;
 use seats::slip::Slip;
 use sheets::job_list::JobList;
 use spool::Spool;
 use std::alloc::{AllocError, Global};
-use std::io;
 use std::io::Read;
+use std::{env, io};
+
+mod calls;
 
 // How many letters the tables and the queues have, and how many bytes the spool.
 const PLACES: usize = 4096;
@@ -214,7 +217,7 @@ fn live_on_pair<C: Carrier<Body = Job> + Drop, D: Carrier<Body = Job> + Drop>(
         asked.as_slice(),
         replies.as_slice(),
     )?;
-    let Ended { mut room, dockets } = run::run::<Job, Pair<C, D>, JobList>(
+    let ended = run::run::<Job, Pair<C, D>, JobList>(
         draft,
         &mut logs,
         &mut holds,
@@ -222,7 +225,7 @@ fn live_on_pair<C: Carrier<Body = Job> + Drop, D: Carrier<Body = Job> + Drop>(
         asked.as_slice(),
         replies.as_mut_slice(),
     );
-    dockets.park_all(&mut room);
+    let room = ended.park_all();
     print_replies(rt, steps, replies.as_slice())?;
     let desk = Desk {
         room,
@@ -233,22 +236,22 @@ fn live_on_pair<C: Carrier<Body = Job> + Drop, D: Carrier<Body = Job> + Drop>(
     Ok(())
 }
 
-// A draft of a room with so many seats, or why there is none.
-fn make_draft(setting: Setting) -> Result<Draft, Refusal> {
-    Draft::check(setting.quota)?;
-    let mut draft = Draft::new(7, setting.quota);
+// Enrols so many boxes.
+fn enrol_all(draft: &mut Draft, seats: u8) -> Result<(), Refusal> {
     // A name is the value itself.
-    for name in 100..100 + setting.seats as u32 {
+    for name in 100..100 + seats as u32 {
         draft.enrol(name)?;
     }
-    Ok(draft)
+    Ok(())
 }
 
 fn live(rt: &HostRuntime, setting: Setting, steps: &[u8]) -> Result<(), Stop> {
     let blank = Letter::make(Stamp { entries: [1; 16] }, 0, Job::Add(0));
     let mut queues = [blank; QUEUES];
     let mut bytes = [0; BYTES];
-    let draft = make_draft(setting)?;
+    Draft::check(setting.quota)?;
+    let mut draft = Draft::new(7, setting.quota);
+    enrol_all(&mut draft, setting.seats)?;
     Lines::check(&queues, setting.seats, setting.size)?;
     Spool::<Job>::check(&bytes, setting.seats)?;
     let lines = Lines::new(&mut queues, setting.seats, setting.size);
@@ -256,10 +259,26 @@ fn live(rt: &HostRuntime, setting: Setting, steps: &[u8]) -> Result<(), Stop> {
     live_on_pair(rt, draft, setting.seats, lines, spool, blank, steps)
 }
 
+// Whether the one argument asks for scripts of calls.
+fn asks_for_calls(rt: &HostRuntime) -> bool {
+    let Ok(args) = env::args(rt) else {
+        return false;
+    };
+    let mut args = args;
+    let _program = args.next();
+    match args.next() {
+        Some(word) => word.as_str() == "calls",
+        None => false,
+    }
+}
+
 // The input begins with four bytes: seats, quota (16 bits, the low byte first), places of a queue. The steps follow.
 fn main(rt: HostRuntime) -> io::Result<()> {
     let mut input = Vec::new(rt.alloc());
     let _ = rt.stdin().read_to_end(&mut input)?;
+    if asks_for_calls(&rt) {
+        return run_scripts(rt.alloc(), input.as_slice(), &mut io::writer(&rt));
+    }
     let &[seats, low, high, size, ref steps @ ..] = input.as_slice() else {
         return Ok(());
     };
