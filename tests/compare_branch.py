@@ -4,9 +4,11 @@
 usage: compare_branch.py PROGRAM
 
 PROGRAM is the built program `branch`. The model, tests/branch_model.py, follows docs/. Every stream's whole output is held to
-the model's, and at the end each outcome and each refusal that can come must have come often.
+the model's, and at the end each outcome and each refusal that can come must have come often. Then the program is given
+arguments, and inputs and outputs that fail.
 """
 
+import errno
 import random
 import struct
 import sys
@@ -15,6 +17,7 @@ from pathlib import Path
 
 sys.dont_write_bytecode = True
 sys.path.insert(0, str(Path(__file__).resolve().parent))
+import broken_streams as broken
 from branch_model import PLACES, QUOTA, SEATS, STEP, Branch
 from run_program import Program
 
@@ -23,6 +26,7 @@ STREAMS = 5400
 PIECES = 60  # streams that are written piece by piece
 LONGER = 60  # streams of hundreds of steps
 LONGEST = 70_000  # steps of one stream
+IDLE = 420_000  # steps of one stream that change nothing, before those that do: more than 3 MiB
 ENDLESS = 6  # streams that go on and on after what is no step
 WORKERS = 2
 
@@ -163,6 +167,22 @@ def longest_stream(rng):
     return b"".join(rng.choice(THROUGH)(rng) for _ in range(LONGEST))
 
 
+def idle_step(rng):
+    """A step that is refused in any room of the program."""
+    kind = rng.randrange(4)
+    if kind == 0:
+        return step(rng, 1, any_seat(rng), bad_form(rng))
+    if kind == 1:
+        return step(rng, 3, any_seat(rng), struct.pack("<H", rng.randrange(PLACES, 65536)))
+    return step(rng, rng.choice([1, 2, 4]), rng.randrange(SEATS, 256), add(rng))
+
+
+def late_stream(rng):
+    """All that changes the room comes after megabytes of steps that change nothing."""
+    block = b"".join(idle_step(rng) for _ in range(1000))
+    return block * (IDLE // 1000) + b"".join(rng.choice(THROUGH)(rng) for _ in range(400))
+
+
 def whole(program, data):
     status, out, _ = program.run([], data)
     return status, out
@@ -194,6 +214,55 @@ def held_to_the_model(index, data, status, got):
     return False, model.counts
 
 
+def compare_late(program, index, data, run):
+    """The same of the stream that goes on for megabytes, which comes through a pipe or from a file."""
+    return held_to_the_model(index, data, *run(program, data))
+
+
+def printed(data):
+    """What is printed of these steps, and how much of it is before the logs."""
+    lines = [line + "\n" for line in Branch().run(data)]
+    return "".join(lines).encode("ascii"), len("".join(lines[:-SEATS]))
+
+
+def fails(run, program, why, *arguments):
+    """What it answers where reading or printing fails, and whether it names this failure on standard error."""
+    answer, error = broken.with_error(run, program, [], *arguments)
+    status, out = answer if isinstance(answer, tuple) else (answer, b"")
+    return out, status == 1 and f"code: {why},".encode() in error
+
+
+def failing_uses(name, data, program):
+    """What docs/PROGRAMS.md says of inputs and outputs that fail, with these steps."""
+    lines, steps = printed(data)
+    yield f"{name}, on a full device", fails(broken.on_full_device, program, errno.ENOSPC, data)[1]
+    yield f"{name}, on a closed output", fails(broken.on_closed_output, program, errno.EBADF, data)[1]
+    yield f"{name}, on an output that is hung up", fails(broken.on_output_hung_up, program, errno.EPIPE, data, 0)[1]
+    for most in [steps - 1, steps, steps + 1, len(lines) - 1]:
+        if most >= 0:
+            out, failed = fails(broken.on_output_cut, program, errno.EFBIG, data, most)
+            yield f"{name}, on {most} of {len(lines)} bytes", failed and lines.startswith(out)
+    out, failed = fails(broken.from_broken_input, program, errno.EIO, data)
+    yield f"{name}, and then an error", failed and lines[:steps].startswith(out)
+
+
+def uses(program, rng):
+    """What docs/PROGRAMS.md says of arguments and of inputs and outputs that fail: what was tried, and whether it was so."""
+    empty, few, many = b"", example(), b"".join(rng.choice(THROUGH)(rng) for _ in range(3000))
+    for arguments in [["--help"], ["job"], [__file__], [""], ["1", "2", "3"]]:
+        status, out, _ = program.run(arguments, few)
+        yield f"arguments {arguments}", status == 0 and out == printed(few)[0]
+    for name, data in [("no steps", empty), ("some steps", few), ("many steps", many)]:
+        lines = printed(data)[0]
+        yield f"{name}, from a file", broken.from_file(program, [], data) == (0, lines)
+        yield f"{name}, on a file that holds all", broken.on_output_cut(program, [], data, len(lines)) == (0, lines)
+        yield from failing_uses(name, data, program)
+    yield "a reader that goes after a while", fails(broken.on_output_hung_up, program, errno.EPIPE, many * 20, 1000)[1]
+    yield "a folder as input", fails(broken.from_folder, program, errno.EISDIR) == (b"", True)
+    yield "a closed input", fails(broken.from_closed_input, program, errno.EBADF) == (b"", True)
+    yield "an input that cannot be read", fails(broken.from_unreadable_input, program, errno.EBADF) == (b"", True)
+
+
 def main():
     if len(sys.argv) != 2:
         print(__doc__)
@@ -204,6 +273,7 @@ def main():
     streams += [(stream(rng), None) for _ in range(STREAMS)]
     streams += [(stream(rng), [rng.choice([1, 3, 7, 8, 9, 20, 64])]) for _ in range(PIECES)]
     streams += [(longer_stream(rng), None) for _ in range(LONGER)] + [(longest_stream(rng), None)]
+    late = late_stream(rng)
     endless = [b"".join(rng.choice(MIXED)(rng) for _ in range(rng.randrange(100))) for _ in range(ENDLESS)]
     if Branch().run(example()) != EXAMPLE_LINES.split("\n"):
         print("the model does not print the example of docs/PROGRAMS.md")
@@ -212,6 +282,8 @@ def main():
     with ThreadPoolExecutor(WORKERS) as workers:
         done = list(workers.map(lambda case: compare(program, case[0], *case[1]), enumerate(streams)))
         done += workers.map(lambda case: compare_end(program, *case), enumerate(endless, len(streams)))
+        ways = [whole, lambda program, data: broken.from_file(program, [], data)]
+        done += workers.map(lambda case: compare_late(program, case[0], late, case[1]), enumerate(ways, len(done)))
     counts = {}
     for _, came in done:
         for what, often in came.items():
@@ -229,7 +301,14 @@ def main():
     for what in sorted(set(counts) - set(MUST_COME)):
         failed += 1
         print(f"{what} came, which cannot be")
-    print(f"{sum(len(data) // 8 for data, _ in streams)} steps in {len(streams)} streams, seed {SEED}")
+    tried = list(uses(program, rng))
+    for what, good in tried:
+        if not good:
+            print(f"not as docs/PROGRAMS.md says: {what}")
+    passed += sum(1 for _, good in tried if good)
+    failed += sum(1 for _, good in tried if not good)
+    print(f"{len(tried)} uses with arguments and with inputs and outputs that fail")
+    print(f"{sum(len(data) // 8 for data, _ in streams) + 2 * (len(late) // 8)} steps in {len(streams) + 2} streams, seed {SEED}")
     print(f"{passed} passed, {failed} failed")
     return 1 if failed else 0
 

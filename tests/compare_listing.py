@@ -7,6 +7,7 @@ The last line is `N passed, M failed`. The status is 1 where any case failed,
 and 2 where there is no program to run.
 """
 
+import errno
 import os
 import random
 import re
@@ -19,6 +20,7 @@ from pathlib import Path
 sys.dont_write_bytecode = True
 TESTS = Path(__file__).resolve().parent
 sys.path[:0] = [str(TESTS), str(TESTS.parent / "tools")]
+import broken_streams as broken
 import random_letters as some
 from letters import records_of_lines
 from listing_examples import EXAMPLES
@@ -30,6 +32,8 @@ WORKERS = 2
 MOST_REPORTS = 10
 MOST_GROWTH = 384  # KiB of memory
 MANY, FEW = 130_000, 1  # letters
+MEGABYTES = 40_000  # letters, which take 3.7 MiB
+ONE_LINE = re.compile(rb"[^\n]*\S[^\n]*\n")
 KINDS = ("text", "job")
 
 # Comparing: each comparison answers None, or what went wrong
@@ -59,8 +63,8 @@ def difference(kind, data, expected, status, output):
 
 def compare(program, kind, data, expected=None):
     expected = expected or expected_listing(kind, data)
-    status, output, _ = program.run([kind], data)
-    return difference(kind, data, expected, status, output)
+    status, output, error = program.run([kind], data)
+    return difference(kind, data, expected, status, output) or (f"{kind}: standard error {short(error)}" if error else None)
 
 
 def compare_in_pieces(program, kind, data, sizes):
@@ -83,10 +87,25 @@ def compare_memory(program, data):
 
 def compare_wrong_use(program, data, arguments):
     status, output, error = program.run(arguments, data)
-    one_line = re.fullmatch(rb"[^\n]*\S[^\n]*\n", error)
-    if status == 1 and output == b"" and one_line and b"text" in error and b"job" in error:
+    if status == 1 and output == b"" and ONE_LINE.fullmatch(error) and b"text" in error and b"job" in error:
         return None
     return f"arguments {arguments}: status {status}, output {short(output)}, error {short(error)}"
+
+
+def compare_from_file(program, kind, data):
+    (status, output), error = broken.with_error(broken.from_file, program, [kind], data)
+    return difference(kind, data, expected_listing(kind, data), status, output) or (short(error) if error else None)
+
+
+def compare_failing(program, name, why, run, kind, *arguments):
+    """Where reading or printing fails it ends with status 1, says why in one line, and prints at most the lines of before."""
+    answer, error = broken.with_error(run, program, [kind], *arguments)
+    status, output = answer if isinstance(answer, tuple) else (answer, b"")
+    lines = expected_listing(kind, *arguments[:1]) if arguments else b""
+    before = lines[:lines.rindex(b"\n", 0, -1) + 1] if lines.count(b"\n") > 1 else b""
+    if status == 1 and before.startswith(output) and error == f"listing: {os.strerror(why)} (os error {why})\n".encode():
+        return None
+    return f"{name}, {kind}: status {status}, output {short(output)}, error {short(error)}"
 
 
 def compare_sample(program, name, kind):
@@ -227,9 +246,38 @@ def endless(rng):
 
 
 def wrong_uses(rng):
-    uses = ([], ["other"], ["text", "job"], ["text", "text"], ["job", "", ""], [""], ["Text"], ["job "], ["texts"],
-            ["jo"], ["-"], ["--help"], [b"\xff"], ["text\n"], ["x" * 5000])
-    return ((compare_wrong_use, some.file(rng, "text"), use) for use in uses)
+    uses = ([], ["other"], ["text", "job"], ["job", "text"], ["text", "text"], ["job", "job"], ["text", ""], ["job", ""],
+            ["", "text"], ["", "job"], ["", ""], ["text", "", ""], ["job", "", ""], ["job", "job", "job"], ["text", "job", "x"],
+            [""], ["Text"], ["Job"], ["TEXT"], ["JOB"], ["job "], [" text"], ["texts"], ["jo"], ["-"], ["--help"], [b"\xff"],
+            [b"job\xff"], ["text\n"], ["x" * 5000])
+    return ((compare_wrong_use, some.file(rng, kind), use) for use in uses for kind in KINDS)
+
+
+def failing_streams(rng):
+    """What docs/PROGRAMS.md says of inputs that cannot be read and of outputs that take nothing, or not all."""
+    for kind in KINDS:
+        for data in (b"", some.file(rng, kind, 9, 1), some.file(rng, kind, 900, 800), some.file(rng, kind, 3) + bytes(RECORD_SIZE)):
+            yield compare_failing, "a full device", errno.ENOSPC, broken.on_full_device, kind, data
+            yield compare_failing, "a closed output", errno.EBADF, broken.on_closed_output, kind, data
+            yield compare_failing, "an output that is hung up", errno.EPIPE, broken.on_output_hung_up, kind, data, 0
+        long = some.file(rng, kind, 900, 800)
+        most = len(expected_listing(kind, long))
+        for room in (0, 1, most // 2, most - 20):
+            yield compare_failing, f"{room} of {most} bytes", errno.EFBIG, broken.on_output_cut, kind, long, room
+        for data in (b"", some.file(rng, kind, 9, 1), some.file(rng, kind, 200, 190)):
+            yield compare_failing, "an input, and then an error", errno.EIO, broken.from_broken_input, kind, data
+        yield compare_failing, "a folder", errno.EISDIR, broken.from_folder, kind
+        yield compare_failing, "a closed input", errno.EBADF, broken.from_closed_input, kind
+        yield compare_failing, "an input that cannot be read", errno.EBADF, broken.from_unreadable_input, kind
+
+
+def megabytes(rng):
+    for kind in KINDS:
+        data = b"".join(some.record(rng, kind) for _ in range(MEGABYTES))
+        damaged = bytes(some.damage(rng, some.record(rng, kind), 2))
+        for whole in (data, data[:-1], data + damaged + data[:5 * RECORD_SIZE]):
+            yield compare, kind, whole
+            yield compare_from_file, kind, whole
 
 
 def large_files(rng):
@@ -267,6 +315,8 @@ CLASSES = {
     "input in pieces": pieces,
     "endless input after a fault": endless,
     "wrong uses": wrong_uses,
+    "failing streams": failing_streams,
+    f"{MEGABYTES:,} letters, through a pipe and from a file": megabytes,
     f"{MANY:,} letters": large_files,
 }
 
