@@ -1,10 +1,9 @@
 -- What it says that every check passed, and where checks look.
-use Rattle.std.specs.Prelude.{◌≡◌, ℕ, zero, suc, ◌+◌, ◌<◌, ◌≤◌, Bool, true, false, not, cond, ◌⊎◌, List, [], ◌∷◌, length, drop, Some, None, Option, slice_index, refl}
+use Rattle.std.specs.Prelude.{◌≡◌, ℕ, zero, suc, ◌+◌, ◌<◌, ◌≤◌, Bool, true, false, not, cond, ◌⊎◌, List, [], ◌∷◌, length, Some, None, Option, slice_index, refl}
 use Rattle.std.specs.List.{position, position_from}
 use Rattle.std.specs.Option.{option_map}
 use Rattle.std.proofs.Common.{inl, inr, sym, ap, ◌∙◌, arith}
 use Rattle.std.proofs.lemmas.Iterator.Adapters.{position_from-zero}
-use Rattle.std.proofs.lemmas.List.{at_drop_more}
 use Rattle.letters.specs.Checks.{check, first_failing}
 use Rattle.letters.specs.declared.body.TheConstants.{BODY_SPACE}
 use Rattle.letters.specs.Forms.{Near}
@@ -57,14 +56,6 @@ module _ (test : ℕ → Bool) where
   pub failing_after : (start : ℕ) (bs : List ℕ) → option_map (λ k. start + k) (position (λ b. not (test b)) bs) ≡ first_failing test start bs
   failing_after start bs =
       ap (option_map (λ k. start + k)) (first_position bs) ∙ failing_on start 0 bs ∙ ap (λ k. first_failing test k bs) (omega arith)
-
-  -- one element of a scan
-  pub fails_here : (bs : List ℕ) (k : ℕ) → k < length bs → test (slice_index bs k) ≡ false → first_failing test k (drop k bs) ≡ Some k
-  fails_here bs k h e = at_drop_more (first_failing test k) bs k 0 h ∙ rw e
-
-  pub passes_here : (bs : List ℕ) (k : ℕ) → k < length bs → test (slice_index bs k) ≡ true
-      → first_failing test k (drop k bs) ≡ first_failing test (k + 1) (drop (k + 1) bs)
-  passes_here bs k h e = at_drop_more (first_failing test k) bs k 0 h ∙ rw e
 
   -- the first that fails does, and those before it pass
   pub record Fails (start : ℕ) (bs : List ℕ) (place : ℕ) : Type 0 where

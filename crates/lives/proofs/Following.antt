@@ -1,32 +1,16 @@
 -- What the calls and their callers may draw from the definitions and from the theorem.
-use Rattle.std.proofs.Common.{◌≡◌, ℕ, ◌-◌, ◌^◌, ◌<◌, min, List, [], ◌∷◌, length, None, refl, ⊎_elim, arith}
+use Rattle.std.proofs.Common.{◌≡◌, ℕ, ◌-◌, ◌^◌, ◌<◌, min, List, [], ◌∷◌, length, refl, ⊎_elim, arith}
 use Rattle.std.proofs.lemmas.Bool.{cases_lt}
-use Rattle.letters.specs.declared.letter.Letter.{Letter}
-use Rattle.letters.specs.Order.{Ready, ready}
 use Rattle.carriers.specs.Meaning.{Empty, Lawful, Meaning, waits_at}
 use Rattle.letters.specs.Lists.{◌∈◌}
-use Rattle.seats.specs.Outcomes.{first_ready}
-use Rattle.seats.specs.Rooms.{RoomState, hold_of, seat_at}
-use Rattle.seats.specs.Seats.{clock_at}
 use Rattle.seats.specs.declared.slip.Slip.{Slip}
 use Rattle.lives.specs.declared.moves.Move.{Move}
 use Rattle.lives.specs.Traces.{Answer}
-use Rattle.lives.specs.Worked.{Moment, Opened, Step, Worked, WorksOn, further, nowhere}
-use Rattle.lives.proofs.Showing.{not_ready}
-use Rattle.lives.proofs.Splits.{none_passes}
-
--- a room that was just opened is worked by no steps
-pub worked_first : {B : Type 0} (w : Moment B) → Opened w → Worked [] w
-worked_first w opens = record { first = w; opened = opens; led = nowhere }
+use Rattle.lives.specs.Worked.{Moment, Step, WorksOn, further}
 
 -- a step keeps the room worked
 pub works_on : {B : Type 0} (move : Move B Slip) (w : Moment B) (answer : Answer) (w' : Moment B) → Step move w answer w' → WorksOn move w answer w'
 works_on move w answer w' step trace was = record { first = was.first; opened = was.opened; led = further was.led step }
-
--- where a show finds nothing, nothing held is ready
-pub none_ready : {B : Type 0} (st : RoomState) (holds : List (Letter B)) (s : ℕ) → first_ready st holds s ≡ None → (m : Letter B) → m ∈ hold_of st holds s
-    → ¬ (Ready st.count st.quota s (clock_at (seat_at st s)) m)
-none_ready st holds s e m i = not_ready st s m (none_passes (ready st.count st.quota s (seat_at st s).clock) 0 (hold_of st holds s) e m i)
 
 none_long : {X : Type 0} (l : List X) → min (length l) (2 ^ 32 - 1) ≡ 0 → l ≡ []
 none_long [] e = refl

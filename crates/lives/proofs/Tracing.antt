@@ -72,9 +72,3 @@ module _ {B X : Type 0} (f : X → Answer) where
   traced_past past later [] answers = refl
   traced_past past later (x ∷ steps) [] = refl
   traced_past past later (x ∷ steps) (y ∷ answers) = traced_past (made x (f y) ∷ past) later steps answers
-
-  -- the same, of steps and answers in turn
-  pub worked_further : (past : Trace B) (w w' : Moment B) (steps : List (Move B Slip)) (answers : List X) → Worked past w
-      → Leads w (traced f [] steps answers) w' → Worked (traced f past steps answers) w'
-  worked_further past w w' steps answers was led =
-      subst (λ (trace : Trace B). Worked trace w') (sym (traced_past [] past steps answers)) (worked_more was led)

@@ -11,10 +11,6 @@ use Rattle.lives.specs.declared.moves.Move.TheVariants as moves
 use Rattle.lives.specs.declared.reply.Reply.{Reply}
 use Rattle.lives.specs.declared.reply.Reply.TheVariants as replies
 
--- the docket of these numbers
-abbrev pub slip : ℕ → ℕ → ℕ → Slip
-slip room seat number = record { room = room; seat = seat; number = number }
-
 -- what a step answers, as its caller sees it
 pub data Answer : Type 0 where
   -- a docket, by post and collect

@@ -1,5 +1,5 @@
 -- A pair of lawful carriers is lawful.
-use Rattle.std.specs.Prelude.{◌≡◌, ℕ, Bool, true, false, cond, List, [], ◌∷◌, ◌++◌, ◌==◌, refl}
+use Rattle.std.specs.Prelude.{◌≡◌, ℕ, Bool, true, false, List, [], ◌∷◌, ◌++◌, ◌==◌, refl}
 use Rattle.std.proofs.Common.{sym, ap, subst, ◌∙◌, ⊎_elim, arith}
 use Rattle.std.proofs.lemmas.Bool.{eqb-true, and_left, and_from, cond-true, cases_Bool}
 use Rattle.carriers.specs.Meaning.{Meaning, Lawful}
@@ -19,13 +19,6 @@ module _ {L : Type 0} where
 
   pub both_alone : (m n : Meaning L) (b : Bool) → b ≡ (m.seats == n.seats) → b ≡ false → both m n ≡ m
   both_alone m n b e t = rw (sym e ∙ t) refl
-
-  -- what the test of the code says
-  pub equal_seats : (m n : Meaning L) (b : Bool) → b ≡ (m.seats == n.seats) → b ≡ true → m.seats ≡ n.seats
-  equal_seats m n b e t = eqb-true _ _ (sym e ∙ t)
-
-  pub both_seats : (m n : Meaning L) → (both m n).seats ≡ m.seats
-  both_seats m n = elim (m.seats == n.seats) as (λ b. (cond b (joined m n) m).seats ≡ m.seats) [ true ↦ refl | false ↦ refl ]
 
   lawful_joined : (m n : Meaning L) → m.seats ≡ n.seats → Lawful m → Lawful n → Lawful (joined m n)
   lawful_joined m n s a b = record {

@@ -1,17 +1,13 @@
 -- What an accepted check has tested.
-use Rattle.std.proofs.Common.{◌≡◌, ℕ, ◌+◌, ◌*◌, ◌<◌, ◌≤◌, true, List, length, drop, Some, Ok, sym, arith, length-take}
-use Rattle.std.proofs.lemmas.Nat.{mul-add-lt}
+use Rattle.std.proofs.Common.{◌≡◌, ℕ, ◌+◌, ◌*◌, ◌<◌, ◌≤◌, List, length, drop, Some, Ok, sym, arith, length-take}
 use Rattle.std.proofs.lemmas.Bool.Decides.{nat_tests}
 use Rattle.letters.specs.declared.letter.Letter.{Letter}
 use Rattle.letters.specs.Letters.{number_of}
-use Rattle.carriers.specs.Meaning.{Meaning, draw_answer}
-use Rattle.seats.specs.declared.seat.DocketEvent.TheVariants.{Post}
 use Rattle.seats.specs.Keeping.{Kept, Sound}
 use Rattle.seats.specs.Rooms.{RoomState, seat_at, start, foot, hold_of}
-use Rattle.seats.specs.Seats.{allows, clock_at}
-use Rattle.seats.specs.declared.slip.Slip.{Slip}
-use Rattle.seats.specs.Outcomes.{held, carrier_check, first_ready, good_slip, post_check, posted_seat, seat_check, shown_seat, taking}
-use Rattle.seats.proofs.Clocks.{seat_kept, clocked_kept, clocked_own, foot_below, row_end}
+use Rattle.seats.specs.Seats.{clock_at}
+use Rattle.seats.specs.Outcomes.{held, carrier_check, first_ready, seat_check, shown_seat}
+use Rattle.seats.proofs.Clocks.{seat_kept, clocked_kept, foot_below, row_end}
 use Rattle.seats.proofs.Searches.{found}
 
 -- of a seat
@@ -24,21 +20,6 @@ pub record Visited (st : RoomState) (logs holds s : ℕ) : Type 0 where
 pub visited : (st : RoomState) (logs holds s : ℕ) → Ok tt ≡ seat_check st logs holds s → Visited st logs holds s
 visited st logs holds s can = record { inside = grind (arith, nat_tests); logs_long = grind (arith, nat_tests); holds_long = grind (arith, nat_tests) }
 
--- of a post
-pub record Postable (st : RoomState) (logs s : ℕ) : Type 0 where
-  pub long : start st st.count ≤ logs
-  pub inside : s < st.count
-  pub clear : allows (seat_at st s).docket Post ≡ true
-  pub left : clock_at (seat_at st s) s < st.quota
-
--- an accepted check of a post
-pub postable : (st : RoomState) (logs holds s : ℕ) → Ok tt ≡ post_check st logs holds s → Postable st logs s
-postable st logs holds s can = record { long = grind (arith, nat_tests); inside = grind (arith, nat_tests); clear = grind (arith, nat_tests); left = grind (arith, nat_tests) }
-
--- the seat's own entry after a post
-pub posted_own : (st : RoomState) (ok : Sound st) (s : ℕ) → s < st.count → clock_at (posted_seat (seat_at st s) s) s ≡ clock_at (seat_at st s) s + 1
-posted_own st ok s inside = clocked_own st.count st.quota ok.few (seat_at st s) (seat_kept st ok s (omega (arith, ok.few))) s inside _
-
 -- of a call that brings a carrier
 pub record Served (st : RoomState) (logs holds seats : ℕ) : Type 0 where
   pub logs_long : start st st.count ≤ logs
@@ -48,22 +29,6 @@ pub record Served (st : RoomState) (logs holds seats : ℕ) : Type 0 where
 -- an accepted check of tables and carrier
 pub served : (st : RoomState) (logs holds seats : ℕ) → Ok tt ≡ carrier_check st logs holds seats → Served st logs holds seats
 served st logs holds seats can = record { logs_long = grind (arith, nat_tests); holds_long = grind (arith, nat_tests); seats_same = grind (arith, nat_tests) }
-
--- a good docket is of a seat of the room
-pub slip_seat : (st : RoomState) (d : Slip) → true ≡ good_slip st d → d.seat < st.count
-slip_seat st d good = grind (arith, nat_tests)
-
--- a letter is drawn at a seat of the carrier
-pub drawn_seat : {L : Type 0} (c : Meaning L) (s place : ℕ) → Ok tt ≡ draw_answer c s place → s < c.seats
-drawn_seat c s place drawn = grind (arith, nat_tests)
-
--- a letter that is kept is not stray, and has a place
-pub free_place : {B : Type 0} (st : RoomState) (holds : List (Letter B)) (s : ℕ) (m : Letter B) → held ≡ taking st holds s m → (seat_at st s).held < st.count * st.quota
-free_place st holds s m kept = grind (arith, nat_tests)
-
--- the end of a hold with a place left lies within the table
-pub hold_place : (st : RoomState) (s : ℕ) → s < st.count → (seat_at st s).held < st.count * st.quota → start st s + (seat_at st s).held < start st st.count
-hold_place st s inside free = omega (arith, mul-add-lt s (st.count * st.quota) (seat_at st s).held st.count inside free)
 
 -- of a show: what the first ready letter is like, and that there is a place for it
 pub record Showable (st : RoomState) (logs holds s k : ℕ) {B : Type 0} (m : Letter B) : Type 0 where

@@ -1,5 +1,5 @@
 -- What a seat keeps while its clock goes up, and that its log has a place for one letter more.
-use Rattle.std.proofs.Common.{◌≡◌, ℕ, zero, suc, ◌+◌, ◌*◌, ◌<◌, ◌≤◌, ◌≢◌, List, [], ◌∷◌, length, get_or, sum, mul-le-mul_right, suc-mul, mul-pos, arith}
+use Rattle.std.proofs.Common.{◌≡◌, ℕ, zero, suc, ◌+◌, ◌*◌, ◌<◌, ◌≤◌, ◌≢◌, List, [], ◌∷◌, length, get_or, sum, mul-le-mul_right, suc-mul, arith}
 use Rattle.std.proofs.lemmas.Nat.{mul-add-lt}
 use Rattle.std.proofs.lemmas.List.{get_or-set_same, get_or-set_other, length-set}
 use Rattle.std.proofs.lemmas.List.Sums.{sum_by-cons, sum_by-set}
@@ -66,7 +66,3 @@ row_end st ok s x inside few =
 -- so does the log of any seat of a sound room
 pub log_fits : (st : RoomState) (ok : Sound st) (s : ℕ) → log_length (seat_at st s) ≤ st.count * st.quota
 log_fits st ok s = sum_le _ st.count st.quota (ok.within s) (ok.nobody s)
-
--- a room's tables are not empty
-pub some_places : (st : RoomState) (ok : Sound st) → 0 < start st st.count
-some_places st ok = mul-pos ok.some (mul-pos ok.some ok.quotaed)
