@@ -5,7 +5,7 @@ usage: check_misuse.py
 
 Posting to a draft does not compile; one opens it first. Letting a docket fall does not compile; one sends or parks it. Nor
 does what only the crate of rooms may do: to make a docket, to change one, to take one apart, to send a letter by the numbers
-of its docket, to write a room's seat. Nor does to spend a docket twice, to enrol in an open room, to work a closed one.
+of its docket, to tell a seat anything. Nor does to spend a docket twice, to enrol in an open room, to work a closed one.
 
 The crates are made in a temporary folder, over copies of the crates that they stand on. Each misuse is a function in a crate
 of its own, and `rt check` must refuse it first at the line and for the item that are named here. An item of the crate of rooms
@@ -97,7 +97,7 @@ def signature(result, *parameters):
 
 
 DOCKET = ["rooms::docket::Docket"]
-DOCKET_ID = [*DOCKET, "seats::docket_id::DocketId"]
+SLIP = [*DOCKET, "seats::slip::Slip"]
 ROOM = ["rooms::room::Room"]
 REFUSAL = ["letters::refusal::Refusal"]
 LETTERS = ["letters::job::Job", "letters::letter::Letter"]
@@ -115,7 +115,7 @@ ON_LINES = "lines: &mut Lines<Job>"
 POST = "room.post(logs, holds, 0, Job::Add(7))"
 
 READ_NUMBER = function(DOCKET, "(docket: &Docket) -> u16", "docket.number()")
-READ_ID = function(DOCKET_ID, "(docket: &Docket) -> DocketId", "docket.id()")
+READ_SLIP = function(SLIP, "(docket: &Docket) -> Slip", "docket.slip()")
 CHECK_CLOSE = function([*ROOM, *REFUSAL], "(room: &Room) -> Result<(), Refusal>", "room.check_close()")
 
 
@@ -192,9 +192,9 @@ MISUSES = [
     ),
     Misuse(
         "out_dockets_made",
-        function(OUT, "() -> OutDockets", "OutDockets { ids: Default::default() }"),
+        function(OUT, "() -> OutDockets", "OutDockets { slips: Default::default() }"),
         0,
-        "ids",
+        "slips",
         HIDDEN,
         function(OUT, "(dockets: OutDockets) -> OutDockets", "dockets"),
     ),
@@ -206,7 +206,7 @@ MISUSES = [
         HIDDEN,
         function(DOCKET, "(docket: Docket) -> Docket", "docket"),
     ),
-    Misuse("docket_made_of_its_id", function(DOCKET_ID, "(docket_id: DocketId) -> Docket", "Docket::of(docket_id)"), 0, "of", HIDDEN, READ_ID),
+    Misuse("docket_made_of_a_slip", function(SLIP, "(slip: Slip) -> Docket", "Docket::of(slip)"), 0, "of", HIDDEN, READ_SLIP),
     Misuse(
         "docket_taken_apart",
         function(DOCKET, "(docket: Docket) -> u16", "let Docket { room: _, seat: _, number } = docket;", "number"),
@@ -216,12 +216,12 @@ MISUSES = [
         READ_NUMBER,
     ),
     Misuse(
-        "docket_turned_into_its_id",
-        function(DOCKET_ID, "(docket: Docket) -> DocketId", "docket.into_id()"),
+        "docket_turned_into_a_slip",
+        function(SLIP, "(docket: Docket) -> Slip", "docket.into_slip()"),
         0,
-        "into_id",
+        "into_slip",
         HIDDEN,
-        READ_ID,
+        READ_SLIP,
     ),
     *[
         Misuse(
@@ -236,34 +236,34 @@ MISUSES = [
     ],
     Misuse(
         "docket_noted_from_outside",
-        function([*ROOM, "seats::seat::DocketEvent"], "(room: &mut Room)", "room.record_docket_event(0, DocketEvent::Send);"),
+        function([*ROOM, "seats::seat::DocketEvent"], "(room: &mut Room)", "room.note_docket(0, DocketEvent::Send);"),
         0,
-        "record_docket_event",
+        "note_docket",
         HIDDEN,
         CHECK_CLOSE,
     ),
     Misuse(
-        "seat_stored_from_outside",
-        function([*ROOM, "seats::seat::Seat"], "(room: &mut Room, seat: Seat)", "room.store_seat(0, seat);"),
+        "seat_told_from_outside",
+        function([*ROOM, "seats::seat::Seat"], "(room: &mut Room, seat: Seat)", "room.tell(0, seat);"),
         0,
-        "store_seat",
+        "tell",
         HIDDEN,
         CHECK_CLOSE,
     ),
     Misuse(
         "letter_sent_by_numbers",
         step(
-            [*REFUSAL, "lives::operation::Operation", "lives::response::Response", "seats::docket_id::DocketId"],
-            " -> Result<Response<DocketId>, Refusal>",
-            "room.step(logs, holds, lines, Operation::Send(DocketId { room: 1, seat: 0, number: 1 }))",
+            [*REFUSAL, "lives::moves::Move", "lives::reply::Reply", "seats::slip::Slip"],
+            " -> Result<Reply<Slip>, Refusal>",
+            "room.step(logs, holds, lines, Move::Send(Slip { room: 1, seat: 0, number: 1 }))",
         ),
         0,
         "step",
         HIDDEN,
         step(
-            [*DOCKET, "lives::operation::Operation", "lives::response::Response", "rooms::declined::Declined"],
-            " -> Result<Response<Docket>, Declined>",
-            "room.make(logs, holds, lines, Operation::Show(0))",
+            [*DOCKET, "lives::moves::Move", "lives::reply::Reply", "rooms::declined::Declined"],
+            " -> Result<Reply<Docket>, Declined>",
+            "room.make(logs, holds, lines, Move::Show(0))",
         ),
     ),
     Misuse(

@@ -1,10 +1,10 @@
-// Works a room of sixteen seats over a carrier, part after part, and prints the results: tests/bench/count.py counts
+// Works a room of sixteen seats over a carrier, part after part, and prints what came of it: tests/bench/count.py counts
 // the instructions of each part.
 #![tactic(auto)]
 
 ghost use Rattle.std.specs.Prelude.{◌≡◌, ◌*◌, true};
-ghost use Rattle.seats.specs.Outcomes.{good_docket};
-ghost use Rattle.rooms.specs.States.{id_of, state};
+ghost use Rattle.seats.specs.Outcomes.{good_slip};
+ghost use Rattle.rooms.specs.States.{slip, state};
 
 use carriers::carrier::Carrier;
 use carriers::lines::Lines;
@@ -12,17 +12,18 @@ use letters::body::Body;
 use letters::job::Job;
 use letters::letter::Letter;
 use letters::refusal::Refusal;
-use letters::text::{LONGEST_TEXT, Text};
+use letters::stamp::Stamp;
+use letters::text::Text;
 use pair::Pair;
 use rooms::docket::{Docket, Returned};
 use rooms::draft::Draft;
 use rooms::room::Room;
-use seats::take_outcome::TakeOutcome;
-use sheet_kinds::job_list::JobList;
-use sheet_kinds::timeline::Timeline;
+use seats::taken::Taken;
+use sheets::job_list::JobList;
 use sheets::sheet::Sheet;
+use sheets::timeline::Timeline;
 use spool::Spool;
-use spool::row_buffer::ROW_SIZE;
+use spool::stored::Stored;
 use std::alloc::AllocError;
 use std::io;
 use std::io::Read;
@@ -30,23 +31,10 @@ use std::mem::size_of;
 
 const SEATS: usize = 16;
 
-// How many letters a seat may post, in a room with jobs and in one with texts.
-const JOB_QUOTA: u16 = 8;
+// How many bytes a spool has for a letter.
+const ROW_SIZE: usize = 98;
 
-const TEXT_QUOTA: u16 = 16;
-
-// How many letters each of the two rooms has.
-const JOBS: usize = SEATS * JOB_QUOTA as usize;
-
-const TEXTS: usize = SEATS * TEXT_QUOTA as usize;
-
-// How many letters a room has at the most.
-const MOST_LETTERS: u32 = 256;
-
-// The texts are fronts of this one, of so many characters or more.
-const SAYING: &[u8; LONGEST_TEXT] = b"The boiler in the cellar is out again; please bring a light.";
-
-const SHORTEST_FRONT: usize = 20;
+const SAYING: &[u8; 60] = b"The boiler in the cellar is out again; please bring a light.";
 
 #[derive(Clone, Copy)]
 enum Make {
@@ -55,7 +43,7 @@ enum Make {
     Pair,
 }
 
-// What is run: the room's quota, the make of its carrier, and how many of the five parts, which are opening, posting and
+// What is worked: the room's quota, the make of its carrier, and how many of the five parts, which are opening, posting and
 // sending, taking, showing and drawing up.
 #[derive(Clone, Copy)]
 struct Setting {
@@ -67,13 +55,13 @@ struct Setting {
 impl Setting {
     // How many letters the room has.
     fn letters(&self) -> usize
-        ensures { result ≡ SEATS * self.now.quota }
+        ensures { result ≡ 16 * self.now.quota }
     {
         SEATS * self.quota as usize
     }
 }
 
-// The results of the parts.
+// What the parts came to.
 #[derive(Clone, Copy, Default)]
 struct Tally {
     seats: u32,
@@ -84,7 +72,7 @@ struct Tally {
     entered: u32,
 }
 
-// Why a run ends early: a call refuses, or memory or printing fails.
+// Why a run ends early: a call says no, or memory or printing fails.
 #[derive(Drop)]
 enum Stop {
     Refused(Refusal),
@@ -111,14 +99,14 @@ impl From<AllocError> for Stop {
 
 // A room at work, with the tables and the carrier that are brought to its calls.
 #[derive(Drop)]
-struct Session<'t, B, C> {
+struct Desk<'t, B, C> {
     room: Room,
     logs: &'t mut [Letter<B>],
     holds: &'t mut [Letter<B>],
     carrier: C,
 }
 
-impl<B: Body, C: Carrier<Body = B>> Session<'_, B, C> {
+impl<B: Body, C: Carrier<Body = B>> Desk<'_, B, C> {
     // Each seat in turn posts the next of its letters, which is sent at once.
     fn post_all(&mut self, bodies: &[B]) -> Result<u32, Refusal> {
         let mut sent: u32 = 0;
@@ -139,7 +127,7 @@ impl<B: Body, C: Carrier<Body = B>> Session<'_, B, C> {
 
     // Sends a docket that is out at the room; where that is refused, it is parked.
     fn send(&mut self, docket: Docket) -> Result<(), Refusal>
-        requires { good_docket (state self.old.room) (id_of docket) ≡ true }
+        requires { good_slip (state self.old.room) (slip docket) ≡ true }
     {
         let logs = &mut *self.logs;
         let holds = &mut *self.holds;
@@ -157,16 +145,16 @@ impl<B: Body, C: Carrier<Body = B>> Session<'_, B, C> {
         for seat in 0..SEATS as u8 {
             for place in (0..self.carrier.waits(seat)).rev() {
                 match self.take(seat, place)? {
-                    TakeOutcome::Held(_) => tally.held = tally.held.wrapping_add(1),
-                    TakeOutcome::Repeat(_) => tally.repeats = tally.repeats.wrapping_add(1),
-                    TakeOutcome::Stray(_) => {}
+                    Taken::Held(_) => tally.held = tally.held.wrapping_add(1),
+                    Taken::Repeat(_) => tally.repeats = tally.repeats.wrapping_add(1),
+                    Taken::Stray(_) => {}
                 }
             }
         }
         Ok(())
     }
 
-    fn take(&mut self, seat: u8, place: u32) -> Result<TakeOutcome, Refusal> {
+    fn take(&mut self, seat: u8, place: u32) -> Result<Taken, Refusal> {
         let logs = &mut *self.logs;
         self.room
             .take(logs, self.holds, &mut self.carrier, seat, place)
@@ -181,14 +169,14 @@ impl<B: Body, C: Carrier<Body = B>> Session<'_, B, C> {
         shown
     }
 
-    // How many letters a seat shows until none is ready; it cannot hold more than a room has.
+    // How many letters a seat shows until none is ready; it cannot hold more than 256.
     fn show(&mut self, seat: u8) -> u32 {
-        for shown in 0..MOST_LETTERS + 1 {
+        for shown in 0..257 {
             if self.room.show(self.logs, self.holds, seat).is_err() {
                 return shown;
             }
         }
-        MOST_LETTERS + 1
+        257
     }
 
     // Draws up the log of each seat on the sheet.
@@ -253,13 +241,13 @@ fn work_over<B: Body, C: Carrier<Body = B> + Drop, K: Sheet<Body = B>>(
         draft.check_open(&logs, &holds, &carrier)?;
         let room = draft.open(&logs, &holds, &carrier);
         tally.seats = carrier.seats() as u32;
-        let mut session = Session {
+        let mut desk = Desk {
             room,
             logs: &mut logs,
             holds: &mut holds,
             carrier,
         };
-        session.work(setting.parts, bodies, sheet, &mut tally)?;
+        desk.work(setting.parts, bodies, sheet, &mut tally)?;
     }
     Ok(tally)
 }
@@ -283,7 +271,7 @@ fn work_over_pair<
 }
 
 // Makes the carrier, with place for all letters, and does the parts over it.
-fn run<B: Body, K: Sheet<Body = B>>(
+fn run<B: Stored, K: Sheet<Body = B>>(
     rt: &HostRuntime,
     setting: Setting,
     blank: Letter<B>,
@@ -306,6 +294,11 @@ fn run<B: Body, K: Sheet<Body = B>>(
     }
 }
 
+// A letter to fill tables with.
+fn make_blank<B: Copy>(body: B) -> Letter<B> {
+    Letter::make(Stamp { entries: [1; 16] }, 0, body)
+}
+
 // The job that is posted at a place in the order of posts: each fourth of a seat strikes the one before it.
 fn make_job(at: u16) -> Result<Job, Refusal> {
     let turn = at / SEATS as u16;
@@ -318,7 +311,7 @@ fn make_job(at: u16) -> Result<Job, Refusal> {
 
 // The text that is posted there.
 fn make_text(at: u16) -> Result<Text, Refusal> {
-    let len = SHORTEST_FRONT + at as usize % (LONGEST_TEXT - SHORTEST_FRONT + 1);
+    let len = 20 + at as usize % 41;
     Text::new(&SAYING[..len])
 }
 
@@ -343,17 +336,16 @@ fn mixed(sum: u32, number: u32) -> u32 {
 
 fn run_jobs(rt: &HostRuntime, make: Make, parts: u8) -> Result<(), Stop> {
     let setting = Setting {
-        quota: JOB_QUOTA,
+        quota: 8,
         make,
         parts,
     };
-    let mut bodies = [Job::Add(0); JOBS];
-    for (at, body) in (0..JOBS as u16).zip(bodies.iter_mut()) {
+    let mut bodies = [Job::Add(0); 128];
+    for (at, body) in (0..256).zip(bodies.iter_mut()) {
         *body = make_job(at)?;
     }
     let mut list = JobList::new();
-    let blank = Letter::blank(Job::Add(0));
-    let tally = run(rt, setting, blank, &bodies, &mut list)?;
+    let tally = run(rt, setting, make_blank(Job::Add(0)), &bodies, &mut list)?;
     print_tally(rt, tally)?;
     let mut sum = 0;
     for job in list.jobs() {
@@ -368,17 +360,22 @@ fn run_jobs(rt: &HostRuntime, make: Make, parts: u8) -> Result<(), Stop> {
 
 fn run_texts(rt: &HostRuntime, make: Make, parts: u8) -> Result<(), Stop> {
     let setting = Setting {
-        quota: TEXT_QUOTA,
+        quota: 16,
         make,
         parts,
     };
-    let mut bodies = [Text::default(); TEXTS];
-    for (at, body) in (0..TEXTS as u16).zip(bodies.iter_mut()) {
+    let mut bodies = [Text::default(); 256];
+    for (at, body) in (0..256).zip(bodies.iter_mut()) {
         *body = make_text(at)?;
     }
     let mut timeline = Timeline::new();
-    let blank = Letter::blank(Text::default());
-    let tally = run(rt, setting, blank, &bodies, &mut timeline)?;
+    let tally = run(
+        rt,
+        setting,
+        make_blank(Text::default()),
+        &bodies,
+        &mut timeline,
+    )?;
     print_tally(rt, tally)?;
     let mut sum = 0;
     for row in timeline.rows() {

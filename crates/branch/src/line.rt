@@ -1,7 +1,7 @@
 // The lines of the program.
 ghost use Rattle.std.specs.Prelude.{◌≡◌, ◌++◌, OnOk, Some, string_bytes};
 ghost use Rattle.std.specs.List.{flat_map};
-ghost use Rattle.branch.specs.StepLines.{after_space, bad_line, log_line, step_line};
+ghost use Rattle.branch.specs.Lines.{after_space, bad_line, log_line, step_line};
 
 use crate::outcome::Outcome;
 use crate::step::Step;
@@ -12,7 +12,7 @@ use std::alloc::AllocError;
 use std::fmt;
 use std::fmt::{Display, Formatter};
 
-// Adds the line of a step, with its outcome or why it was refused.
+// Adds the line of a step, and what it came to or why it was refused.
 pub fn add_step(
     line: &mut String,
     index: u64,

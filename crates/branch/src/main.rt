@@ -1,37 +1,34 @@
 // A box to try: a job room of three seats on lines.
 #![tactic(auto)]
 
-ghost use Rattle.std.specs.Prelude.{◌≡◌, ◌↔◌, ◌<◌, ◌≤◌, Err, OnOk, []};
+ghost use Rattle.std.specs.Prelude.{◌≡◌, OnOk, []};
 ghost use Rattle.std.specs.Io.KnownBytes.{Appends};
 ghost use Rattle.carriers.specs.Lines.{lines_of};
-ghost use Rattle.lives.specs.Reachability.{Reachable};
-ghost use Rattle.branch.specs.declared.failure.Failure.TheVariants.{Usage};
-ghost use Rattle.branch.specs.Sessions.{JustOpened, all_log_lines, configuration_at};
-ghost use Rattle.branch.specs.Driving.{SessionPrint};
-ghost use Rattle.branch.specs.Program.{Finished};
+ghost use Rattle.lives.specs.Worked.{Worked};
+ghost use Rattle.branch.specs.Desks.{JustOpened, all_log_lines, standing};
+ghost use Rattle.branch.specs.Keeping.{Finished};
+ghost use Rattle.branch.specs.Runs.{Printed};
+ghost use Rattle.branch.specs.Turns.{Turn};
 
-use crate::failure::Failure;
+use crate::desk::Desk;
 use crate::line::add_log;
-use crate::session::Session;
 use carriers::carrier::Carrier;
 use carriers::lines::Lines;
 use chunks::fill;
 use letters::job::Job;
 use letters::letter::Letter;
+use letters::stamp::Stamp;
 use rooms::draft::Draft;
-use sheet_kinds::job_list::JobList;
+use sheets::job_list::JobList;
 use sheets::sheet::Sheet;
 use std::alloc::Global;
-use std::env::{Env, FillError};
 use std::io;
 use std::io::{Read, Write};
-use std::process::ExitCode;
 
-mod failure;
+mod desk;
 mod line;
 mod outcome;
 mod reading;
-mod session;
 mod step;
 
 // How many bytes are held at a time: whole steps.
@@ -42,9 +39,9 @@ fn drive<C: Carrier<Body = Job>, R: Read, W: Write>(
     alloc: Global,
     input: &mut R,
     output: &mut W,
-    session: &mut Session<'_, '_, C>,
+    desk: &mut Desk<'_, '_, C>,
 ) -> io::Result<()>
-    ensures { OnOk result (SessionPrint C.Carrier (R.remaining input.old) session.old (W.contents output.old) (W.contents output.new) session.new) }
+    ensures { OnOk result (Printed (Turn C.Carrier.meaning C.Carrier.puts C.Carrier.rests) (R.remaining input.old) desk.old (W.contents output.old) (W.contents output.new) desk.new) }
 {
     let mut held = [0; CHUNK];
     let mut lines = String::new(alloc);
@@ -53,7 +50,7 @@ fn drive<C: Carrier<Body = Job>, R: Read, W: Write>(
     for _ in 0..u64::MAX {
         lines.clear();
         let read = fill(input, &mut held)?;
-        let made = session.make_steps(&held[..read], &mut index, &mut lines)?;
+        let made = desk.make_steps(&held[..read], &mut index, &mut lines)?;
         output.write_all(lines.as_bytes())?;
         if made.is_err() || read < CHUNK {
             return Ok(());
@@ -63,17 +60,13 @@ fn drive<C: Carrier<Body = Job>, R: Read, W: Write>(
 }
 
 // Prints the logs of all seats.
-fn print_logs<C, W: Write>(
-    alloc: Global,
-    output: &mut W,
-    session: &Session<'_, '_, C>,
-) -> io::Result<()>
-    ensures { OnOk result (Appends (W.contents output.old) (W.contents output.new) (all_log_lines session.now)) }
+fn print_logs<C, W: Write>(alloc: Global, output: &mut W, desk: &Desk<'_, '_, C>) -> io::Result<()>
+    ensures { OnOk result (Appends (W.contents output.old) (W.contents output.new) (all_log_lines desk.now)) }
 {
     let mut lines = String::new(alloc);
     // No room has more seats, and a seat that this one lacks has no log.
     for seat in 0..16 {
-        if let Ok(log) = session.room.log(session.logs, session.holds, seat) {
+        if let Ok(log) = desk.room.log(desk.logs, desk.holds, seat) {
             add_log(&mut lines, seat, log)?;
         }
     }
@@ -85,19 +78,19 @@ fn open_room<'l, 'h, 'q>(
     logs: &'l mut [Letter<Job>; 36],
     holds: &'h mut [Letter<Job>; 36],
     queues: &'q mut [Letter<Job>; 12],
-) -> Session<'l, 'h, Lines<'q, Job>>
+) -> Desk<'l, 'h, Lines<'q, Job>>
     ensures opened { JustOpened result }
     ensures tables { (result.logs.now ≡ logs.old) × (result.holds.now ≡ holds.old) }
-    ensures reachable { Reachable [] (configuration_at lines_of result) }
+    ensures worked { Worked [] (standing lines_of result) }
 {
     let mut draft = Draft::new(1, 4);
-    // Names are any numbers but 0. A refusal would show at the opening.
+    // Names are any numbers but 0. A no would show at the opening.
     let _ = draft.enrol(1);
     let _ = draft.enrol(2);
     let _ = draft.enrol(3);
     let carrier = Lines::new(queues, 3, 4);
     let room = draft.open(logs, holds, &carrier);
-    Session {
+    Desk {
         room,
         logs,
         holds,
@@ -115,53 +108,15 @@ fn run<K: Sheet<Body = Job>, R: Read, W: Write>(
 ) -> io::Result<()>
     ensures { OnOk result (Finished K.Sheet.kind (R.remaining input.old) (W.contents output.old) (W.contents output.new)) }
 {
-    let blank = Letter::blank(Job::Add(0));
+    let blank = Letter::make(Stamp { entries: [1; 16] }, 0, Job::Add(0));
     let mut logs = [blank; 36];
     let mut holds = [blank; 36];
     let mut queues = [blank; 12];
-    let mut session = open_room(&mut logs, &mut holds, &mut queues);
-    drive(alloc, input, output, &mut session)?;
-    print_logs(alloc, output, &session)
+    let mut desk = open_room(&mut logs, &mut holds, &mut queues);
+    drive(alloc, input, output, &mut desk)?;
+    print_logs(alloc, output, &desk)
 }
 
-// The program as it was called, with so many words, of which the first is its name. It takes no arguments: where a second word
-// stands, nothing is read or written.
-fn run_without_arguments<K: Sheet<Body = Job>, R: Read, W: Write>(
-    alloc: Global,
-    words: usize,
-    input: &mut R,
-    output: &mut W,
-) -> Result<(), Failure>
-    ensures alone { words ≤ 1 → OnOk result (Finished K.Sheet.kind (R.remaining input.old) (W.contents output.old) (W.contents output.new)) }
-    ensures usage { (result ≡ Err Usage) ↔ 1 < words }
-    ensures untouched { 1 < words → (input.new ≡ input.old) × (output.new ≡ output.old) }
-{
-    if 1 < words {
-        return Err(Failure::Usage);
-    }
-    Ok(run::<K, _, _>(alloc, input, output)?)
-}
-
-// How many words the program was called with. They need not be text.
-fn count_words(rt: &HostRuntime) -> usize {
-    for index in 0..usize::MAX {
-        if let Err(FillError::NotPresent) = rt.arg(index, &mut []) {
-            return index;
-        }
-    }
-    usize::MAX
-}
-
-// A failure is printed on the standard error, and ends the program with status 1.
-fn main(rt: HostRuntime) -> io::Result<ExitCode> {
-    let words = count_words(&rt);
-    let (input, output) = (&mut rt.stdin(), &mut io::writer(&rt));
-    match run_without_arguments::<JobList, _, _>(rt.alloc(), words, input, output) {
-        Ok(()) => Ok(ExitCode::SUCCESS),
-        Err(Failure::Usage) => {
-            let _ = eprintln!(rt; "usage: branch < STEPS (it takes no arguments)");
-            Ok(ExitCode::FAILURE)
-        }
-        Err(Failure::Io(why)) => Err(why),
-    }
+fn main(rt: HostRuntime) -> io::Result<()> {
+    run::<JobList, _, _>(rt.alloc(), &mut rt.stdin(), &mut io::writer(&rt))
 }

@@ -1,8 +1,8 @@
 pub mod Putting
 pub mod Meaning
 pub mod Appending
-pub mod RestingLemmas
+pub mod Resting
 pub mod Serving
 pub mod Places
 pub mod Lines
-pub mod LineLemmas
+pub mod LineLaws

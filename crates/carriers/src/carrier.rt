@@ -3,8 +3,8 @@ ghost use Rattle.std.specs.Prelude.{◌≡◌, OnOk};
 ghost use Rattle.std.specs.Result.{OnErr};
 ghost use Rattle.letters.specs.declared.letter.Letter.{Letter};
 ghost use Rattle.letters.specs.Letters.{parts_of};
-ghost use Rattle.letters.specs.Refusals.{as_answer};
-ghost use Rattle.carriers.specs.Meaning.{DrawLeaves, LawfulMeaning, Meaning, PutLeaves, draw_answer, put_answer, waits_at};
+ghost use Rattle.letters.specs.Refusals.{told};
+ghost use Rattle.carriers.specs.Meaning.{DrawLeaves, Lawful, Meaning, PutLeaves, draw_answer, put_answer, waits_at};
 
 use letters::body::Body;
 use letters::letter::Letter;
@@ -17,14 +17,14 @@ pub trait Carrier {
 
     ghost meaning: { Self → Meaning (Letter Self.Body) };
 
-    ghost lawful: { (c : Self) → LawfulMeaning (meaning c) };
+    ghost lawful: { (c : Self) → Lawful (meaning c) };
 
-    // What one put of a letter does to the carrier itself. Two puts of a letter, and one that brings it twice, can leave the same
-    // meaning; each make of carrier defines here what one put of its own does.
+    // What one put of a letter makes of the carrier. Two puts of a letter and one that brings it twice can come to the same
+    // meaning; each make of carrier says here what its own one put does.
     ghost puts: { Self → Letter Self.Body → Self → Type 0 };
 
-    // What a refused put or draw leaves of the carrier itself, with memory that is lent to it. Each make of carrier defines here
-    // how much of it stays: at least its meaning.
+    // What a refused put or draw leaves of the carrier itself, with memory that is lent to it. Each make of carrier says here
+    // how much of it stays; a carrier may say no more than that it means what it meant, and none says less.
     ghost rests: { Self → Self → Type 0 };
 
     ghost still: { (c after : Self) → rests c after → meaning after ≡ meaning c };
@@ -33,7 +33,7 @@ pub trait Carrier {
     fn seats(&self) -> u8
         ensures { result ≡ (meaning self.now).seats };
 
-    // How many letters wait for a seat; a list longer than 2^32 - 1 counts as that many.
+    // How many letters wait for a seat, as far as 32 bits can say.
     fn waits(&self, seat: u8) -> u32
         ensures { result ≡ waits_at (meaning self.now) seat };
 
@@ -43,15 +43,15 @@ pub trait Carrier {
 
     // Takes a letter for every seat but its poster; 8 where the poster is no seat here, 11 where it does not fit.
     fn put(&mut self, letter: &Letter<Self::Body>) -> Result<(), Refusal>
-        ensures answer { as_answer (λ u. u) result ≡ put_answer (meaning self.old) letter.now.poster }
+        ensures answer { told (λ u. u) result ≡ put_answer (meaning self.old) letter.now.poster }
         ensures leaves { PutLeaves result (meaning self.old) letter.now.poster letter.now (meaning self.new) }
         ensures once { OnOk result (puts self.old letter.now self.new) }
         ensures rests { OnErr result (rests self.old self.new) };
 
-    // Takes out the letter that waits at a place and fills the lent parts with its own; 8 where there is no such seat,
+    // Takes out the letter that waits at a place and fills the lent parts with its own; 8 where the seat is none here,
     // 14 where the place is past those that wait.
     fn draw(&mut self, seat: u8, place: u32, parts: &mut Parts<Self::Body>) -> Result<(), Refusal>
-        ensures answer { as_answer (λ u. u) result ≡ draw_answer (meaning self.old) seat place }
+        ensures answer { told (λ u. u) result ≡ draw_answer (meaning self.old) seat place }
         ensures leaves { DrawLeaves parts_of result (meaning self.old) seat place (meaning self.new) parts.old parts.new }
         ensures rests { OnErr result (rests self.old self.new) };
 }

@@ -9,10 +9,9 @@ use Rattle.letters.specs.declared.stamp.Stamp.{Stamp}
 use Rattle.letters.specs.Letters.{entry_at}
 use Rattle.letters.specs.Order.{covers, ready, side_by_side}
 use Rattle.letters.specs.Refusals.{Reason}
-use Rattle.rooms.specs.Drafts.{DraftState, draft_with_name, enrol_answer, enrol_check, state_of_new_draft}
-use Rattle.sheet_kinds.specs.declared.open_job.OpenJob.{OpenJob}
-use Rattle.sheet_kinds.specs.JobLists.{job_does, job_list_kind, open_job}
-use Rattle.sheet_kinds.specs.Timelines.{timeline_kind}
+use Rattle.rooms.specs.Drafts.{DraftState, drafted, enrol_answer, enrol_check, enrolled}
+use Rattle.sheets.specs.declared.open_job.OpenJob.{OpenJob}
+use Rattle.sheets.specs.JobLists.{job_does, open_job}
 use Rattle.sheets.specs.Pages.{page_count}
 use Rattle.spool.specs.Masks.{all_but, full, seats_marked}
 use Rattle.spool.specs.Rows.{row_fits, spool_answer}
@@ -46,7 +45,7 @@ pub data Case : Type 0 where
   begins_with : (seats poster mask draws : ℕ) → Case
   -- which mask marks all of so many seats? its ones are as many
   marks_all : (seats mask : ℕ) → Case
-  -- with which number is a spool of so many bytes for five seats refused, 0 where it is accepted?
+  -- with which number is a spool of so many bytes for five seats refused, 0 being a yes?
   spool_refused : (bytes number : ℕ) → Case
   -- how many rows does a spool of so many bytes hold?
   spool_holds : (bytes rows : ℕ) → Case
@@ -56,21 +55,19 @@ pub data Case : Type 0 where
   takes_seats : (quota seats number : ℕ) → Case
   -- how many pages do so many rows take?
   takes_pages : (rows pages : ℕ) → Case
-  -- how many letters can be entered on a timeline, and how many on a job list?
-  have_places : (timeline list : ℕ) → Case
 
-abbrev same_answer : Bool → Bool → Bool
-same_answer a b = cond a b (not b)
+abbrev agree : Bool → Bool → Bool
+agree a b = cond a b (not b)
 
--- the number of a refusal, and 0 where there is none
+-- the number of a no, and 0 for a yes
 abbrev no_number : {X : Type 0} → Result X Reason → ℕ
 no_number (Ok x) = 0
 no_number (Err why) = why.number
 
 -- what a draft of the quota holds after so many enrolments, one after the other, under the names 1, 2, 3 and so on
 abbrev drafted_so_far : ℕ → ℕ → DraftState
-drafted_so_far quota zero = state_of_new_draft 0 quota
-drafted_so_far quota (suc n) = let d = drafted_so_far quota n in draft_with_name d (enrol_answer d (n + 1)) (n + 1)
+drafted_so_far quota zero = drafted 0 quota
+drafted_so_far quota (suc n) = let d = drafted_so_far quota n in enrolled d (enrol_answer d (n + 1)) (n + 1)
 
 abbrev same_job : OpenJob → OpenJob → Bool
 same_job j k = j.poster == k.poster && j.number == k.number && j.code == k.code
@@ -82,9 +79,9 @@ same_jobs (j ∷ js) [] = false
 same_jobs (j ∷ js) (k ∷ ks) = same_job j k && same_jobs js ks
 
 abbrev holds : Case → Bool
-holds (is_ready clock m answer) = same_answer (ready 3 4 2 clock m) answer
-holds (are_beside m k answer) = same_answer (side_by_side m k) answer
-holds (does_cover m p n answer) = same_answer (covers m.stamp p n) answer
+holds (is_ready clock m answer) = agree (ready 3 4 2 clock m) answer
+holds (are_beside m k answer) = agree (side_by_side m k) answer
+holds (does_cover m p n answer) = agree (covers m.stamp p n) answer
 holds (begins_with seats poster mask draws) = all_but seats poster == mask && count_ones mask == draws
 holds (marks_all seats mask) = full seats == mask && (count_ones mask == seats && seats_marked mask 16 == seats)
 holds (spool_refused bytes number) = no_number (spool_answer 5 bytes) == number
@@ -93,7 +90,6 @@ holds (leaves_jobs before m after) = same_jobs (job_does m.body m before) after
 holds (takes_seats quota seats number) =
     (drafted_so_far quota seats).count == seats && no_number (enrol_check (drafted_so_far quota seats) (seats + 1)) == number
 holds (takes_pages rows pages) = page_count rows == pages
-holds (have_places timeline list) = timeline_kind.places == timeline && job_list_kind.places == list
 
 abbrev pub cases : List Case
 cases =
@@ -117,7 +113,6 @@ cases =
     ∷ takes_pages 0 0
     ∷ takes_pages 20 1
     ∷ takes_pages 21 2
-    ∷ have_places 256 128
     ∷ []
 
 abbrev every_holds : List Case → Bool

@@ -1,5 +1,5 @@
--- What happened in a room, and what led to what, without stamps. L is what stands for a letter: the whole letter, or
--- its name.
+-- What happened in a room, and what led to what: no word of stamps. L is what the letters are told by: whole letters, or
+-- their names.
 use Rattle.std.specs.Prelude.{◌≡◌, ℕ, cond, ◌⊎◌, List, [], ◌∷◌, ◌++◌, ◌==◌}
 
 -- a letter was posted, or shown (delivered), at the box of a seat
@@ -41,8 +41,8 @@ module _ {L : Type 0} where
     direct : {m m' : L} → Before m m' h → LedTo h m m'
     through : {m k m' : L} → LedTo h m k → LedTo h k m' → LedTo h m m'
 
--- the same events, with what a function makes of each letter in its place
-abbrev pub map_letters : {A L : Type 0} → (A → L) → History A → History L
-map_letters f [] = []
-map_letters f (posted s m ∷ h) = posted s (f m) ∷ map_letters f h
-map_letters f (shown s m ∷ h) = shown s (f m) ∷ map_letters f h
+-- the same events, each letter told by what a function makes of it
+abbrev pub told : {A L : Type 0} → (A → L) → History A → History L
+told f [] = []
+told f (posted s m ∷ h) = posted s (f m) ∷ told f h
+told f (shown s m ∷ h) = shown s (f m) ∷ told f h

@@ -1,7 +1,7 @@
-pub mod LetterLists
+pub mod Logs
 pub mod History
 pub mod Worlds
-pub mod WorldSteps
+pub mod Steps
 pub mod Runs
 pub mod Theorems
 pub mod Sample

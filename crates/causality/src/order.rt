@@ -5,7 +5,6 @@ ghost use Rattle.causality.specs.Sample.{Arrives, first_parts, stamp_of_first};
 ghost use Rattle.causality.specs.Theorems.{CausalOrder, OrderForSheets, StampsMeanLedTo, TellsLedTo, stamps_say};
 
 use letters::letter::Letter;
-use letters::parts::Parts;
 use letters::stamp::Stamp;
 
 // Whether every log is in causal order, and every letter is the very one that was posted. They always are.
@@ -16,7 +15,7 @@ pub fn causal_order_holds<B: Copy>() -> bool
     true
 }
 
-// Whether m led to k (happened before it), by their stamps alone: right wherever both were posted in one room. Every
+// Whether m led to k (happened before it), told from their stamps alone: right wherever both were posted in one room. Every
 // log is in causal order, and any two logs of a room, and any beginnings of them, are fit to be drawn up on sheets that agree.
 pub fn led_to<B: Copy>(m: &Letter<B>, k: &Letter<B>) -> bool
     ensures answer { result ≡ stamps_say m.now k.now }
@@ -28,24 +27,20 @@ pub fn led_to<B: Copy>(m: &Letter<B>, k: &Letter<B>) -> bool
     was_known(m, k)
 }
 
-// Whether k covers m and is another letter.
+// Whether k covers m and is another letter. A function of its own, since it returns at two places, and each would have to
+// carry the theorems of the one above.
 fn was_known<B: Copy>(m: &Letter<B>, k: &Letter<B>) -> bool
     ensures { result ≡ stamps_say m.now k.now }
 {
     k.covers(m.id()) && !m.is_same(k)
 }
 
-// The letter 0.1 with this body, stamped as the first post in a room. A run brings it, and a letter that answers it,
-// to every seat of three.
+// The letter 0.1 with this body, stamped as the first post in a room; a run brings it, and a reply, to every seat of three.
 pub fn first_letter<B: Copy>(body: B) -> Letter<B>
     ensures parts { parts_of result ≡ first_parts body }
     ensures arrives { Arrives result }
 {
-    Letter::make(Parts {
-        stamp: first_stamp(),
-        poster: 0,
-        body,
-    })
+    Letter::make(first_stamp(), 0, body)
 }
 
 // The stamp of the first letter that seat 0 posts.

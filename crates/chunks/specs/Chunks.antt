@@ -1,4 +1,4 @@
--- What filling a chunk reads.
+-- What is read of a chunk.
 use Rattle.std.specs.Prelude.{ℕ, ◌<◌, ◌≤◌, List, length, take, Option}
 use Rattle.std.specs.Io.KnownBytes.{Consumes, IsAtEnd}
 

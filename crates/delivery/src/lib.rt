@@ -5,7 +5,7 @@ ghost use Rattle.std.specs.Prelude.{◌≡◌, OnOk, length, replicate};
 ghost use Rattle.carriers.specs.Lines.{put_places};
 ghost use Rattle.std.specs.Result.{OnErr};
 ghost use Rattle.letters.specs.Letters.{parts_of};
-ghost use Rattle.letters.specs.Refusals.{as_answer};
+ghost use Rattle.letters.specs.Refusals.{told};
 ghost use Rattle.delivery.specs.Passing.{Passes, delivery_answer, parts_by, pass_answer};
 
 use carriers::carrier::Carrier;
@@ -23,7 +23,7 @@ pub fn put_and_draw<C: Carrier>(
     seat: u8,
     parts: &mut Parts<C::Body>,
 ) -> Result<(), Refusal>
-    ensures answer { as_answer (λ u. u) result ≡ pass_answer (C.meaning carrier.old) letter.now.poster seat }
+    ensures answer { told (λ u. u) result ≡ pass_answer (C.meaning carrier.old) letter.now.poster seat }
     ensures passes { Passes C.meaning C.puts result carrier.old letter.now seat parts.old carrier.new parts.new }
 {
     let poster = letter.poster();
@@ -53,7 +53,7 @@ pub fn over_lines<B: Body>(
     seat: u8,
     parts: &mut Parts<B>,
 ) -> Result<(), Refusal>
-    ensures answer { as_answer (λ u. u) result ≡ delivery_answer seats size (length places.old) letter.now.poster seat }
+    ensures answer { told (λ u. u) result ≡ delivery_answer seats size (length places.old) letter.now.poster seat }
     ensures filled { parts.new ≡ parts_by (delivery_answer seats size (length places.old) letter.now.poster seat) (parts_of letter.now) parts.old }
     ensures kept { OnErr result (places.new ≡ places.old) }
     ensures table { OnOk result (places.new ≡ put_places size (replicate 16 0) letter.now.poster letter.now places.old seats) }
@@ -79,6 +79,7 @@ mod tests {
     use letters::job::Job;
     use letters::letter::Letter;
     use letters::parts::Parts;
+    use letters::stamp::Stamp;
     use letters::text::Text;
     use std::test::Fail;
 
@@ -90,11 +91,15 @@ mod tests {
         let Ok(blank) = Text::new(b"") else {
             return Err(Fail::new("no text was refused"));
         };
-        let letter = Letter::blank(text);
+        let stamp = Stamp { entries: [1; 16] };
+        let Ok(letter) = Letter::new(stamp, 0, text) else {
+            return Err(Fail::new("a letter was refused"));
+        };
         let mut places = [letter; 6];
         let mut parts = Parts {
+            stamp,
             poster: 9,
-            ..Letter::blank(blank).parts()
+            body: blank,
         };
         assert!(rt; over_lines(&mut places, 3, 2, &letter, 1, &mut parts).is_ok());
         assert_eq!(rt; parts.poster, 0);
@@ -104,16 +109,15 @@ mod tests {
 
     #[test]
     fn a_job_is_drawn(rt: HostRuntime) -> Result<(), Fail> {
-        let Ok(letter) = Letter::new(Parts {
-            poster: 2,
-            ..Letter::blank(Job::Add(7)).parts()
-        }) else {
+        let stamp = Stamp { entries: [1; 16] };
+        let Ok(letter) = Letter::new(stamp, 2, Job::Add(7)) else {
             return Err(Fail::new("a letter was refused"));
         };
         let mut places = [letter; 6];
         let mut parts = Parts {
+            stamp,
             poster: 9,
-            ..Letter::blank(Job::Add(0)).parts()
+            body: Job::Add(0),
         };
         let mut lines = Lines::new(&mut places, 3, 2);
         assert!(rt; put_and_draw(&mut lines, &letter, 1, &mut parts).is_ok());

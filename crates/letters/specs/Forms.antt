@@ -1,17 +1,18 @@
--- How bodies of a type stand in a record.
+-- How one kind of body stands in a record.
 use Rattle.std.specs.Prelude.{◌≡◌, ℕ, ◌<◌, ◌≤◌, Bool, true, List, length, Some, None, Option, slice_index}
 use Rattle.letters.specs.declared.body.TheConstants.{BODY_SPACE}
 
--- What a type of bodies gives about its bytes. A type may have bodies of several kinds, each with a byte of its own.
+-- What a type of bodies says of its bytes. A type may have bodies of several kinds: a kind is told by its byte.
 pub record Form (B : Type 0) : Type 0 where
-  -- the byte of a body's kind
+  -- the byte that tells a body's kind
   pub kind : B → ℕ
+  -- a body's bytes
   pub bytes : B → List ℕ
   -- whether the type has bodies of the kind
   pub has_kind : ℕ → Bool
   -- whether a body of the kind can have so many bytes
   pub has_length : ℕ → ℕ → Bool
-  -- the first byte at which a list is not a body of the kind
+  -- the first byte at which a list is no body of the kind
   pub wrong : ℕ → List ℕ → Option ℕ
   -- Of a kind, a length and a place: where that begins which is looked at together with the byte at the place. A byte that is
   -- looked at alone begins itself, and so does the first byte of a number.
@@ -35,7 +36,7 @@ pub record FirstWrong {B : Type 0} (form : Form B) (kind n : ℕ) (bs : List ℕ
       → ¬ ((k : ℕ) → k < n → form.starts kind n k ≤ place → slice_index (form.bytes b) k ≡ slice_index bs k)
 
 -- the round trip, and that every body has place in a record
-pub record LawfulForm {B : Type 0} (form : Form B) : Type 0 where
+pub record Lawful {B : Type 0} (form : Form B) : Type 0 where
   -- reading undoes writing
   pub back : (b : B) → form.body (form.kind b) (form.bytes b) ≡ b
   -- a body's own kind, length and bytes are right

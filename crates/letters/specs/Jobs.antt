@@ -5,7 +5,7 @@ use Rattle.letters.specs.declared.job.Job.{Job}
 use Rattle.letters.specs.declared.job.Job.TheVariants.{Add, Strike}
 use Rattle.letters.specs.Checks.{check}
 use Rattle.letters.specs.Forms.{Form}
-use Rattle.letters.specs.Names.{Name, is_name, name_from, name_of}
+use Rattle.letters.specs.Names.{Name, name, name_of}
 use Rattle.letters.specs.Numbers.{bytes_of_16, bytes_of_32, number_16, number_32}
 use Rattle.letters.specs.Refusals.{Reason, unless}
 
@@ -17,14 +17,14 @@ job_bytes (Strike id) = 2 ∷ id.poster ∷ bytes_of_16 id.number
 abbrev pub add_wrong : List ℕ → Option ℕ
 add_wrong bs = check (slice_index bs 0 == 1) 0 None
 
--- four bytes are a strike, of a name that a letter can have
+-- four bytes are a strike, of a letter that can be
 abbrev pub strike_wrong : List ℕ → Option ℕ
 strike_wrong bs =
     check (slice_index bs 0 == 2) 0
     (check (nat_lt (slice_index bs 1) 16) 1
     (check (nat_lt 0 (number_16 2 bs)) 2 None))
 
--- the first byte at which a list is not a job
+-- the first byte at which a list is no job
 abbrev pub job_wrong : List ℕ → Option ℕ
 job_wrong bs = cond (length bs == 5) (add_wrong bs) (cond (length bs == 4) (strike_wrong bs) (Some 0))
 
@@ -33,14 +33,14 @@ abbrev pub job_starts : ℕ → ℕ → ℕ
 job_starts n place = cond (n == 4 && place == 3) 2 place
 
 -- the strike of p.n, and some job where there is no such letter
-unfoldable pub strike_or_none : (p n : ℕ) (can : Bool) → is_name p n ≡ can → Job
+unfoldable pub strike_or_none : (p n : ℕ) (can : Bool) → (nat_lt p 16 && nat_lt 0 n) ≡ can → Job
 strike_or_none p n true e =
     let both = and_parts (nat_lt p 16) (nat_lt 0 n) e in
     Strike (record { poster = p; number = n; seated = ltb-true p 16 both.0; counted = ltb-true 0 n both.1 })
 strike_or_none p n false e = Add 0
 
 unfoldable pub strike_of : ℕ → ℕ → Job
-strike_of p n = strike_or_none p n (is_name p n) refl
+strike_of p n = strike_or_none p n (nat_lt p 16 && nat_lt 0 n) refl
 
 -- the job with these bytes, and any job where there is none
 abbrev pub job_of : List ℕ → Job
@@ -58,16 +58,16 @@ job_form = record {
   body = λ k bs. job_of bs;
 }
 
--- what a caller sees of a job: the code of an addition, or the name of the letter that is struck
-pub data JobContent : Type 0 where
-  adds : ℕ → JobContent
-  strikes : Name → JobContent
+-- what a job is to its reader: the code of an addition, or the name of the letter that is struck
+pub data Said : Type 0 where
+  adds : ℕ → Said
+  strikes : Name → Said
 
 -- the values of each case of a job
-abbrev pub content_of_job : Job → JobContent
-content_of_job (Add code) = adds code
-content_of_job (Strike id) = strikes (name_of id)
+abbrev pub said : Job → Said
+said (Add code) = adds code
+said (Strike id) = strikes (name_of id)
 
--- a strike is made of any poster and number that a letter can be called by
-abbrev pub strike_answer : ℕ → ℕ → Result JobContent Reason
-strike_answer p n = unless (is_name p n) 20 (Ok (strikes (name_from p n)))
+-- a strike is made of any seat below 16 and any number but 0
+abbrev pub strike_answer : ℕ → ℕ → Result Said Reason
+strike_answer p n = unless (nat_lt p 16 && nat_lt 0 n) 20 (Ok (strikes (name p n)))

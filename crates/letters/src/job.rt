@@ -1,16 +1,15 @@
 // Jobs as bodies of letters.
 ghost use Rattle.std.specs.Prelude.{◌≡◌, ◌∷◌, length, None};
-ghost use Rattle.letters.specs.declared.job.Job.TheVariants.{Add};
-ghost use Rattle.letters.specs.Jobs.{add_wrong, content_of_job, job_bytes, job_form, strike_answer, strike_wrong};
+ghost use Rattle.letters.specs.Jobs.{add_wrong, job_bytes, job_form, said, strike_answer, strike_wrong};
 ghost use Rattle.letters.specs.Numbers.{bytes_of_16, padded};
-ghost use Rattle.letters.specs.Refusals.{as_answer};
+ghost use Rattle.letters.specs.Refusals.{told};
 ghost use Rattle.letters.specs.JobsLemmas.{job_lawful};
 
 use crate::body::{BODY_SPACE, Body, padded};
 use crate::letter_id::LetterId;
 use crate::refusal::Refusal;
 
-// A job to do, with its code, or a strike, which takes one off the list.
+// A job to do, with its code, or the taking off of one.
 #[derive(Clone, Copy)]
 pub enum Job {
     // opens the job that has this letter's name
@@ -20,9 +19,9 @@ pub enum Job {
 }
 
 impl Job {
-    // The strike of the letter of this poster and number; 20 where the poster is no seat or the number is 0.
+    // The strike of a letter that can be; 20 where the poster is no seat or the number is 0.
     pub fn strike(poster: u8, number: u16) -> Result<Job, Refusal>
-        ensures { as_answer content_of_job result ≡ strike_answer poster number }
+        ensures { told said result ≡ strike_answer poster number }
     {
         let id = LetterId::new(poster, number)?;
         Ok(Job::Strike(id))
@@ -85,8 +84,6 @@ fn read_strike(bytes: &[u8]) -> Job
 impl Body for Job {
     ghost form = { job_form };
 
-    ghost blank = { Add 0 };
-
     ghost lawful = { job_lawful };
 
     fn has_kind(kind: u8) -> bool {
@@ -129,9 +126,5 @@ impl Body for Job {
             Job::Add(code) => add_bytes(*code),
             Job::Strike(id) => strike_bytes(*id),
         }
-    }
-
-    fn make_blank() -> Job {
-        Job::Add(0)
     }
 }

@@ -1,3 +1,4 @@
+// A letter.
 ghost use Rattle.std.specs.Prelude.{◌≡◌, ◌<◌, length, slice_index, ⊤};
 
 use crate::stamp::Stamp;

@@ -1,4 +1,4 @@
-// Names of letters.
+// What a letter is called.
 ghost use Rattle.std.specs.Prelude.{◌<◌};
 
 mod naming;

@@ -1,16 +1,15 @@
+// A text.
 ghost use Rattle.std.specs.Prelude.{◌≡◌, ◌-◌, ◌≤◌, false, length, take, drop, replicate, is_some};
 ghost use Rattle.letters.specs.declared.text.TheConstants.{LONGEST_TEXT};
 ghost use Rattle.letters.specs.Characters.{text_wrong};
 
-use crate::body::BODY_SPACE;
-
 pub mod reading;
 
 // How many bytes the longest text has.
-pub const LONGEST_TEXT: usize = BODY_SPACE;
+pub const LONGEST_TEXT: usize = 60;
 
 // A line of text: up to sixty printable characters, with zeros after them.
-// The characters stand in an array, with how many there are: letters are copied, in fixed memory.
+// The characters stand in an array with their number beside them, and in no `String`: letters are copied, in fixed memory.
 #[derive(Clone, Copy)]
 pub struct Text {
     chars: [u8; LONGEST_TEXT],

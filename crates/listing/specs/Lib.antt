@@ -1,4 +1,4 @@
-pub mod ListingLines
+pub mod Lines
 pub mod Stepping
 pub mod Listings
 pub mod Asking

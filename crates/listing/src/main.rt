@@ -5,7 +5,7 @@ ghost use Rattle.std.specs.Prelude.{◌≡◌, ◌↔◌, IfOk, OnOk, Err, strin
 ghost use Rattle.letters.specs.Jobs.{job_form};
 ghost use Rattle.letters.specs.Texts.{text_form};
 ghost use Rattle.listing.specs.Asking.{AsksForNone, AsksJobs, AsksTexts};
-ghost use Rattle.listing.specs.ListingLines.{job_says, text_says};
+ghost use Rattle.listing.specs.Lines.{job_says, text_says};
 ghost use Rattle.listing.specs.Listings.{HeldListed, Lists};
 ghost use Rattle.listing.specs.declared.failure.Failure.TheVariants.{Usage};
 
@@ -16,8 +16,8 @@ use crate::stepping::add_next;
 use chunks::fill;
 use letters::body::Body;
 use letters::job::Job;
-use letters::letter::Letter;
 use letters::parts::Parts;
+use letters::stamp::Stamp;
 use letters::text::Text;
 use records::fault::Fault;
 use records::reader::Reader;
@@ -69,7 +69,11 @@ fn list<B: Say, R: Read, W: Write>(
     let mut held = [0; CHUNK];
     let mut lines = String::new(alloc);
     let mut letters = 0;
-    let mut parts = Letter::blank(body).parts();
+    let mut parts = Parts {
+        stamp: Stamp { entries: [0; 16] },
+        poster: 0,
+        body,
+    };
     // The bound is there only because every loop has to end.
     for _ in 0..u64::MAX {
         lines.clear();
@@ -115,7 +119,7 @@ fn run(rt: &HostRuntime) -> Result<(), Failure> {
     list_asked(rt.alloc(), &args, &mut rt.stdin(), &mut io::writer(rt))
 }
 
-// A failure is printed on the standard error, and ends the program with status 1.
+// A failure is told on the standard error, and ends the program with status 1.
 fn main(rt: HostRuntime) -> ExitCode {
     match run(&rt) {
         Ok(()) => ExitCode::SUCCESS,

@@ -1,4 +1,4 @@
--- Two lists of the same letters, in the order that logs have, give the same meaning on every kind of sheet.
+-- Two lists of the same letters, in the order that logs have, come to the same on every kind of sheet.
 use Rattle.std.proofs.Common.{◌≡◌, ◌≤◌, List, length, Ok, sym, ap, ◌∙◌, arith}
 use Rattle.std.proofs.lemmas.Bool.Decides.{nat_tests}
 use Rattle.letters.specs.declared.letter.Letter.{Letter}
@@ -6,17 +6,17 @@ use Rattle.letters.specs.Letters.{letter_name}
 use Rattle.letters.specs.Names.{Name}
 use Rattle.letters.specs.Order.{SameLetter}
 use Rattle.letters.specs.Lists.{◌∈◌}
-use Rattle.causality.specs.LetterLists.{ForSheets}
+use Rattle.causality.specs.Logs.{ForSheets}
 use Rattle.causality.proofs.Lists.{in_as}
-use Rattle.sheets.specs.Sheets.{Kind, LawfulKind, draw_up_outcome, drawn_up}
+use Rattle.sheets.specs.Sheets.{Kind, Lawful, draw_up_outcome, drawn_up}
 use Rattle.sheets.proofs.Sheets.{converges}
-use Rattle.lives.specs.Guarantees.{SheetsAgree}
+use Rattle.lives.specs.Keeps.{Agree}
 
 -- letters of one name are the same
 pub same_named : {B : Type 0} (m k : Letter B) → letter_name m ≡ letter_name k → SameLetter m k
 same_named m k e = record { poster = ap (λ (i : Name). i.poster) e; number = ap (λ (i : Name). i.number) e }
 
--- what drawing up a list has tested, and what it results in
+-- what drawing up a list has tested, and what it comes to
 record Drawn {M B : Type 0} (kind : Kind M B) (l : List (Letter B)) (m : M) : Type 0 where
   fits : length l ≤ kind.places
   is : m ≡ drawn_up kind l
@@ -24,7 +24,7 @@ record Drawn {M B : Type 0} (kind : Kind M B) (l : List (Letter B)) (m : M) : Ty
 drawn : {M B : Type 0} (kind : Kind M B) (l : List (Letter B)) (m : M) → draw_up_outcome kind l ≡ Ok m → Drawn kind l m
 drawn kind l m e = record { fits = grind (arith, nat_tests); is = grind (arith, nat_tests) }
 
-pub agree : {M B : Type 0} (kind : Kind M B) → LawfulKind kind → (a b : List (Letter B)) → ForSheets a b → SheetsAgree kind a b
+pub agree : {M B : Type 0} (kind : Kind M B) → Lawful kind → (a b : List (Letter B)) → ForSheets a b → Agree kind a b
 agree {M} {B} kind laws a b fit same m m' e e' =
     let d = drawn kind a m e in
     let d' = drawn kind b m' e' in

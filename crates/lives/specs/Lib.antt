@@ -1,4 +1,4 @@
 pub mod Traces
-pub mod Reachability
+pub mod Worked
 pub mod Drawing
-pub mod Guarantees
+pub mod Keeps

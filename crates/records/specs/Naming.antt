@@ -1,4 +1,4 @@
--- Which byte of a refused record is named, defined by the records of letters and not by the checks.
+-- Which byte of a refused record is named, told by the records of letters and not by the checks.
 use Rattle.std.specs.Prelude.{◌≡◌, ℕ, ◌+◌, ◌-◌, ◌/◌, ◌<◌, ◌≤◌, cond, List, length, take, ◌==◌, nat_lt, slice_index}
 use Rattle.letters.specs.declared.letter.Letter.{Letter}
 use Rattle.letters.specs.Forms.{Form}
@@ -21,7 +21,7 @@ module _ {B : Type 0} (form : Form B) where
   abbrev pub AgreesBefore : List ℕ → ℕ → Letter B → Type 0
   AgreesBefore bs t m = (k : ℕ) → turn bs k < t → slice_index (record_of form m) k ≡ slice_index bs k
 
-  -- The byte is the first wrong one of a record: the record of some letter agrees with all that is looked at before its turn, and no
+  -- The byte is the first wrong one of 96: the record of some letter agrees with all that is looked at before its turn, and no
   -- letter's agrees with that and with what is looked at in its turn. Of two bytes that are looked at together it is the first.
   pub record FirstWrongByte (bs : List ℕ) (byte : ℕ) : Type 0 where
     pub looked_at : turn bs byte < RECORD_SIZE
@@ -30,6 +30,6 @@ module _ {B : Type 0} (form : Form B) where
     pub never : (m : Letter B) → ¬ (AgreesBefore bs (turn bs byte + 1) m)
 
   -- the byte that is named where the record at the front of some bytes is refused; where they are too few, how many there are
-  pub record NamedByte (bs : List ℕ) (byte : ℕ) : Type 0 where
+  pub record Named (bs : List ℕ) (byte : ℕ) : Type 0 where
     pub whole : RECORD_SIZE ≤ length bs → FirstWrongByte (take RECORD_SIZE bs) byte
     pub short : length bs < RECORD_SIZE → byte ≡ length bs

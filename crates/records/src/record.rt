@@ -1,10 +1,10 @@
 // One letter as a record.
-ghost use Rattle.std.specs.Prelude.{◌≡◌, ◌≤◌, not, ◌++◌, take, drop, None};
+ghost use Rattle.std.specs.Prelude.{◌≡◌, ◌≤◌, not, ◌++◌, drop, None};
 ghost use Rattle.std.specs.List.{position};
 ghost use Rattle.letters.specs.Checks.{first_failing};
-ghost use Rattle.records.specs.Faults.{fault_as_answer};
-ghost use Rattle.records.specs.Reading.{PartsAfter, RecordRead, read_answer};
-ghost use Rattle.records.specs.Records.{body_part, is_zero, kind_byte, parts_record, record_of, wrong_byte, wrong_front, wrong_header};
+ghost use Rattle.records.specs.Faults.{told_fault};
+ghost use Rattle.records.specs.Reading.{LeftBy, RecordRead, read_answer};
+ghost use Rattle.records.specs.Records.{body_part, is_zero, kind_byte, record_of, wrong_byte, wrong_front, wrong_header};
 
 use crate::bytes::{number_at, put};
 use crate::fault::Fault;
@@ -13,27 +13,21 @@ use letters::body::{BODY_SPACE, Body};
 use letters::letter::Letter;
 use letters::parts::Parts;
 
-// What stands where in a record, behind the stamp: first the poster, one byte.
-pub const POSTER_PLACE: usize = STAMP_SIZE;
-
-// The place of the byte of the body's kind.
-pub const KIND_PLACE: usize = POSTER_PLACE + 1;
-
-// The place of the body's length, one byte.
-pub const LENGTH_PLACE: usize = KIND_PLACE + 1;
-
-const ZERO_PLACE: usize = LENGTH_PLACE + 1;
-
-// Where the body's space begins.
-pub const BODY_PLACE: usize = ZERO_PLACE + 1;
-
-// Where the body's space ends.
-const BODY_END: usize = BODY_PLACE + BODY_SPACE;
-
 // How many bytes a record has.
-pub const RECORD_SIZE: usize = BODY_END;
+pub const RECORD_SIZE: usize = 96;
 
-// The record of a letter, RECORD_SIZE bytes.
+// What stands where behind the stamp: the poster, the body's kind and length, a zero, and the body from its first byte on.
+const POSTER_PLACE: usize = 32;
+
+const KIND_PLACE: usize = 33;
+
+const LENGTH_PLACE: usize = 34;
+
+const ZERO_PLACE: usize = 35;
+
+const BODY_PLACE: usize = 36;
+
+// The letter's record.
 pub fn to_record<B: Body>(letter: &Letter<B>) -> [u8; RECORD_SIZE]
     ensures { result ≡ record_of B.form letter.now }
 {
@@ -70,28 +64,20 @@ pub fn read_record<B: Body>(bytes: &[u8], parts: &mut Parts<B>) -> Result<(), Fa
     }
 }
 
-// The same for a whole record: checks first, then fills.
+// The same of a whole record: looks first, then fills.
 fn read_whole<B: Body>(bytes: &[u8; RECORD_SIZE], parts: &mut Parts<B>) -> Result<(), Fault>
-    ensures answer { fault_as_answer result ≡ read_answer (wrong_byte B.form bytes.now) }
-    ensures left { PartsAfter B.form bytes.now parts.old parts.new (wrong_byte B.form bytes.now) }
+    ensures answer { told_fault result ≡ read_answer (wrong_byte B.form bytes.now) }
+    ensures left { LeftBy B.form bytes.now parts.old parts.new (wrong_byte B.form bytes.now) }
 {
     if let Some(byte) = wrong_byte::<B>(bytes) {
         return Err(Fault { index: 0, byte });
     }
-    *parts = read_parts(bytes);
-    Ok(())
-}
-
-// The parts that a record in which nothing is wrong writes.
-fn read_parts<B: Body>(bytes: &[u8; RECORD_SIZE]) -> Parts<B>
-    requires { wrong_byte B.form bytes.now ≡ None }
-    ensures { parts_record B.form result ≡ bytes.now }
-{
-    Parts {
+    *parts = Parts {
         stamp: read_stamp(bytes),
         poster: bytes[POSTER_PLACE],
         body: read_body(bytes),
-    }
+    };
+    Ok(())
 }
 
 // The body of a record in which nothing is wrong.
@@ -109,7 +95,7 @@ pub(crate) fn read_letter<B: Body>(bytes: &[u8; RECORD_SIZE]) -> Letter<B>
     requires { wrong_byte B.form bytes.now ≡ None }
     ensures { record_of B.form result ≡ bytes.now }
 {
-    Letter::make(read_parts(bytes))
+    Letter::make(read_stamp(bytes), bytes[POSTER_PLACE], read_body(bytes))
 }
 
 // The first wrong byte of the record at the front; where the bytes are too few for one, how many there are.
@@ -162,15 +148,16 @@ fn wrong_header<B: Body>(bytes: &[u8; RECORD_SIZE]) -> Option<u8>
     None
 }
 
-// The first byte that is not zero, from a place in the body's space to its end.
+// The first byte that is not zero, from a place on.
 fn nonzero_from(bytes: &[u8; RECORD_SIZE], from: u8) -> Option<u8>
-    requires { from ≤ BODY_END }
-    ensures { result ≡ first_failing is_zero from (drop from (take BODY_END bytes.now)) }
+    requires { from ≤ RECORD_SIZE }
+    ensures { result ≡ first_failing is_zero from (drop from bytes.now) }
 {
-    let place = first_nonzero(&bytes[from as usize..BODY_END])?;
+    let place = first_nonzero(&bytes[from as usize..])?;
     Some(from + place as u8)
 }
 
+// The first byte that is not zero.
 fn first_nonzero(bytes: &[u8]) -> Option<usize>
     ensures { result ≡ position (λ b. not (is_zero b)) bytes.now }
 {

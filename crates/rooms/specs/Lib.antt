@@ -1,8 +1,7 @@
 pub mod States
 pub mod Calls
 pub mod Serving
-pub mod WithCarrier
-pub mod RoomReading
+pub mod Reading
 pub mod Drafts
 pub mod Running
 pub mod Asked

@@ -1,9 +1,9 @@
 // The docket of a posted letter.
 ghost use Rattle.std.specs.Prelude.{◌≡◌};
-ghost use Rattle.rooms.specs.States.{id_of};
+ghost use Rattle.rooms.specs.States.{slip};
 
 use letters::refusal::Refusal;
-use seats::docket_id::DocketId;
+use seats::slip::Slip;
 
 // The right to send one posted letter. It is not Drop: a docket is sent or parked, never let fall.
 pub struct Docket {
@@ -40,31 +40,31 @@ impl Docket {
         self.number
     }
 
-    // The room, the seat and the number, which are no docket by themselves.
-    pub fn id(&self) -> DocketId
-        ensures { result ≡ id_of self.now }
+    // All three.
+    pub fn slip(&self) -> Slip
+        ensures { result ≡ slip self.now }
     {
         let Docket { room, seat, number } = self;
-        DocketId {
+        Slip {
             room: *room,
             seat: *seat,
             number: *number,
         }
     }
 
-    // The docket of these numbers. A public `From` would let any caller make a docket.
-    pub(crate) fn of(numbers: DocketId) -> Docket
-        ensures { id_of result ≡ numbers }
+    // The docket of these numbers. It is no `From`, and stays within the crate: outside it nobody can make a docket.
+    pub(crate) fn of(numbers: Slip) -> Docket
+        ensures { slip result ≡ numbers }
     {
-        let DocketId { room, seat, number } = numbers;
+        let Slip { room, seat, number } = numbers;
         Docket { room, seat, number }
     }
 
-    // Its numbers, where it is spent. A public `From` would let any caller be rid of a docket unspent.
-    pub(crate) fn into_id(self) -> DocketId
-        ensures { result ≡ id_of self }
+    // Its numbers, where it is spent. It is no `From`, and stays within the crate: outside it nobody can let a docket fall.
+    pub(crate) fn into_slip(self) -> Slip
+        ensures { result ≡ slip self }
     {
         let Docket { room, seat, number } = self;
-        DocketId { room, seat, number }
+        Slip { room, seat, number }
     }
 }

@@ -1,23 +1,23 @@
 // Scripts of single calls: tables of any length, any letters in them, dockets in hand, and carriers of any size. Each module
-// stands on the one that it is in, of which it uses what is private there. Here is what a script asks for, and its answers.
+// stands on the one that it is in, of which it uses what is private there. Here is what a script asks for, and what it is told.
 ghost use Rattle.std.specs.Prelude.{◌+◌, ◌<◌, length};
 
-use letters::body::Body;
 use letters::job::Job;
 use letters::letter::Letter;
 use letters::letter_id::LetterId;
-use letters::parts::Parts;
 use letters::refusal::Refusal;
 use letters::stamp::Stamp;
 use letters::text::Text;
 use records::fault::Fault;
-use seats::docket_id::DocketId;
-use seats::take_outcome::TakeOutcome;
+use seats::slip::Slip;
+use seats::taken::Taken;
+use spool::stored::Stored;
 use std::alloc::AllocError;
 use std::{array, fmt, str};
 
 pub mod memory;
 
+// The 16-bit number at a place.
 fn number_at(bytes: &[u8], place: usize) -> u16
     requires { place + 1 < length bytes.now }
 {
@@ -31,6 +31,7 @@ fn wide_at(bytes: &[u8], place: usize) -> u32
     u32::from(number_at(bytes, place)) + 65536 * u32::from(number_at(bytes, place + 2))
 }
 
+// How many bytes a setting has.
 const SETTING_SIZE: usize = 32;
 
 #[derive(Clone, Copy)]
@@ -40,7 +41,7 @@ enum Make {
     Pair,
 }
 
-// How a carrier is made: for how many seats, and a pair's spool for how many; how many places a queue has; and how many
+// How a carrier is made: for how many seats, those of a pair's spool beside them; how many places a queue has; and how many
 // letters and bytes are lent.
 #[derive(Clone, Copy)]
 struct Size {
@@ -63,7 +64,7 @@ struct ScriptSetting {
 
 // The size of a carrier, of the eight bytes at a place.
 fn size_at(bytes: &[u8; SETTING_SIZE], place: usize) -> Size
-    requires { place + 7 < SETTING_SIZE }
+    requires { place + 7 < 32 }
 {
     Size {
         seats: bytes[place],
@@ -203,12 +204,10 @@ impl From<u8> for Asked {
     }
 }
 
-// How many bytes a call has, and where its stamp begins.
+// How many bytes a call has.
 const CALL_SIZE: usize = 64;
 
-const STAMP_START: usize = 32;
-
-// What a call asks for, and what it brings; which of this it needs depends on what it asks for.
+// What a call asks for, and what it brings: what it asks for tells which of this it needs.
 #[derive(Clone, Copy)]
 struct ScriptCall {
     asked: Asked,
@@ -259,18 +258,15 @@ impl From<&[u8; CALL_SIZE]> for ScriptCall {
             first: bytes[25],
             length: bytes[28],
             stamp: Stamp {
-                entries: array::from_fn(|seat| number_at(bytes, STAMP_START + 2 * seat)),
+                entries: array::from_fn(|seat| number_at(bytes, 32 + 2 * seat)),
             },
         }
     }
 }
 
-// A text's length is one byte, so this many characters are enough for each.
-const CHARACTERS: usize = 256;
-
 impl ScriptCall {
     // The characters of a text, as many as any length has.
-    fn characters(&self) -> [u8; CHARACTERS] {
+    fn characters(&self) -> [u8; 256] {
         let even = self.first;
         let odd = even.saturating_add(1);
         array::from_fn(|place| if place % 2 == 0 { even } else { odd })
@@ -279,11 +275,7 @@ impl ScriptCall {
     // The letter that it brings, or why there is none.
     fn letter<B: ScriptBody>(&self) -> Result<Letter<B>, Refusal> {
         let body = B::brought(self)?;
-        Letter::new(Parts {
-            stamp: self.stamp,
-            poster: self.poster,
-            body,
-        })
+        Letter::new(self.stamp, self.poster, body)
     }
 }
 
@@ -303,6 +295,7 @@ fn letter_sum<B: ScriptBody>(letter: &Letter<B>) -> u32 {
         .mixed_into(mixed(sum, u32::from(letter.poster())))
 }
 
+// The sum over the letters of a table.
 fn table_sum<B: ScriptBody>(letters: &[Letter<B>]) -> u32 {
     let mut sum = 0;
     for letter in letters {
@@ -311,6 +304,7 @@ fn table_sum<B: ScriptBody>(letters: &[Letter<B>]) -> u32 {
     sum
 }
 
+// The sum over bytes.
 fn byte_sum(bytes: &[u8]) -> u32 {
     let mut sum = 0;
     for byte in bytes {
@@ -320,7 +314,7 @@ fn byte_sum(bytes: &[u8]) -> u32 {
 }
 
 // A body that a script can bring, add up and print.
-trait ScriptBody: Body {
+trait ScriptBody: Stored {
     // The body that a call brings, or why there is none.
     fn brought(call: &ScriptCall) -> Result<Self, Refusal>;
 
@@ -355,6 +349,7 @@ impl ScriptBody for Job {
     }
 }
 
+// The characters of a text.
 fn chars(text: &Text) -> &str {
     str::from_utf8(text.as_bytes()).unwrap_or("?")
 }
@@ -387,8 +382,8 @@ enum AnswerLine {
     Bad(Fault),
     Done,
     Seat(u8),
-    Docket(DocketId),
-    Taken(TakeOutcome),
+    Docket(Slip),
+    Taken(Taken),
     Shown(LetterId),
     Pages(u32),
     Name(LetterId),
@@ -397,7 +392,7 @@ enum AnswerLine {
 }
 
 impl AnswerLine {
-    // Of a call whose line says only whether it was refused.
+    // Of a call of which nothing more is told than whether it was refused.
     fn of<T: Drop>(answer: Result<T, Refusal>) -> AnswerLine {
         match answer {
             Ok(_) => AnswerLine::Done,
@@ -414,12 +409,8 @@ impl fmt::Display for AnswerLine {
             AnswerLine::Bad(fault) => write!(f, "refused 20 {} {}", fault.index, fault.byte),
             AnswerLine::Done => write!(f, "done"),
             AnswerLine::Seat(seat) => write!(f, "seat {seat}"),
-            AnswerLine::Docket(docket_id) => {
-                write!(
-                    f,
-                    "docket {} {} {}",
-                    docket_id.room, docket_id.seat, docket_id.number
-                )
+            AnswerLine::Docket(slip) => {
+                write!(f, "docket {} {} {}", slip.room, slip.seat, slip.number)
             }
             AnswerLine::Taken(taken) => write!(f, "{taken}"),
             AnswerLine::Shown(id) => write!(f, "shown {id}"),

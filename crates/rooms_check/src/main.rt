@@ -1,4 +1,4 @@
-// Runs a job room on a pair of lines and a spool, by steps of twelve bytes, and prints what each answered, the logs, and the
+// Runs a job room on a pair of lines and a spool, by steps of twelve bytes, and prints what each replied, the logs, and the
 // job list of each seat. With the argument `calls` it runs scripts of single calls instead.
 #![tactic(auto)]
 
@@ -9,28 +9,28 @@ use letters::body::Body;
 use letters::job::Job;
 use letters::letter::Letter;
 use letters::refusal::Refusal;
-use lives::operation::Operation;
-use lives::response::Response;
+use letters::stamp::Stamp;
+use lives::moves::Move;
+use lives::reply::Reply;
 use pair::Pair;
 use rooms::draft::Draft;
 use rooms::room::Room;
 use rooms::run;
-use seats::docket_id::DocketId;
-use sheet_kinds::job_list::JobList;
+use seats::slip::Slip;
+use sheets::job_list::JobList;
 use spool::Spool;
-use spool::row_buffer::ROW_SIZE;
 use std::alloc::{AllocError, Global};
 use std::io::Read;
 use std::{env, io};
 
 mod calls;
 
-// How many letters the tables and the queues have, and how many bytes the spool, which has place for 64.
+// How many letters the tables and the queues have, and how many bytes the spool.
 const PLACES: usize = 4096;
 
 const QUEUES: usize = 256;
 
-const BYTES: usize = 64 * ROW_SIZE;
+const BYTES: usize = 6272;
 
 // How the room and its carrier are made.
 #[derive(Clone, Copy)]
@@ -40,7 +40,8 @@ struct Setting {
     size: u32,
 }
 
-// Why a step or the whole run ends early: a call refuses, or printing fails.
+// Why a step or the whole run ends early: a call says no, or printing fails.
+// Each program has its own: a crate for an error enum of two cases would be no plainer.
 #[derive(Drop)]
 enum Stop {
     Refused(Refusal),
@@ -66,7 +67,7 @@ impl From<io::Error> for Stop {
 }
 
 // Prints the refusal, where there was one.
-fn print_refusal(rt: &HostRuntime, ended: Result<(), Stop>) -> io::Result<()> {
+fn tell(rt: &HostRuntime, ended: Result<(), Stop>) -> io::Result<()> {
     match ended {
         Ok(()) => Ok(()),
         Err(Stop::Refused(why)) => println!(rt; "refused {why}"),
@@ -75,95 +76,93 @@ fn print_refusal(rt: &HostRuntime, ended: Result<(), Stop>) -> io::Result<()> {
 }
 
 // The step that twelve bytes write: the call, a seat, a 16-bit number, a 32-bit one, a poster, and zeros.
-// The calls are 1 post an add, 2 post a strike, 3 send, 4 park, 5 collect, 6 take, and show by any other.
-fn read_operation(bytes: &[u8]) -> Result<Operation<Job, DocketId>, Refusal> {
+// The calls are 1 post an add, 2 post a strike, 3 send, 4 park, 5 collect, 6 take, and show by any other. It is no `TryFrom`:
+// bytes and `Move` are both of other crates.
+fn read_move(bytes: &[u8]) -> Result<Move<Job, Slip>, Refusal> {
     let &[call, seat, low, high, a, b, c, d, poster, ..] = bytes else {
-        return Ok(Operation::Show(0));
+        return Ok(Move::Show(0));
     };
     let number = u16::from_le_bytes([low, high]);
     let wide = u32::from_le_bytes([a, b, c, d]);
-    let docket_id = DocketId {
+    let slip = Slip {
         room: wide,
         seat,
         number,
     };
     match call {
-        1 => Ok(Operation::Post(seat, Job::Add(wide))),
-        2 => Ok(Operation::Post(seat, Job::strike(poster, number)?)),
-        3 => Ok(Operation::Send(docket_id)),
-        4 => Ok(Operation::Park(docket_id)),
-        5 => Ok(Operation::Collect(seat)),
-        6 => Ok(Operation::Take(seat, wide)),
-        _ => Ok(Operation::Show(seat)),
+        1 => Ok(Move::Post(seat, Job::Add(wide))),
+        2 => Ok(Move::Post(seat, Job::strike(poster, number)?)),
+        3 => Ok(Move::Send(slip)),
+        4 => Ok(Move::Park(slip)),
+        5 => Ok(Move::Collect(seat)),
+        6 => Ok(Move::Take(seat, wide)),
+        _ => Ok(Move::Show(seat)),
     }
 }
 
-fn print_response(rt: &HostRuntime, response: Response<DocketId>) -> io::Result<()> {
-    match response {
-        Response::Docket(DocketId { room, seat, number }) => println!(rt;
-            "docket {room} {seat} {number}"
-        ),
-        Response::Done => println!(rt; "done"),
-        Response::Taken(taken) => println!(rt; "{taken}"),
-        Response::Shown(id) => println!(rt; "shown {id}"),
+// It is no `Display`: a reply is of another crate, and these words are this program's.
+fn print_reply(rt: &HostRuntime, reply: Reply<Slip>) -> io::Result<()> {
+    match reply {
+        Reply::Docket(Slip { room, seat, number }) => println!(rt; "docket {room} {seat} {number}"),
+        Reply::Done => println!(rt; "done"),
+        Reply::Taken(taken) => println!(rt; "{taken}"),
+        Reply::Shown(id) => println!(rt; "shown {id}"),
     }
 }
 
 // The steps that the bytes write, without those that cannot be read.
-fn read_operations(
-    alloc: Global,
-    steps: &[u8],
-) -> Result<Vec<Operation<Job, DocketId>>, AllocError> {
+fn read_moves(alloc: Global, steps: &[u8]) -> Result<Vec<Move<Job, Slip>>, AllocError> {
     let mut asked = Vec::new(alloc);
     for bytes in steps.chunks_exact(12) {
-        if let Ok(step) = read_operation(bytes) {
+        if let Ok(step) = read_move(bytes) {
             asked.push(step)?;
         }
     }
     Ok(asked)
 }
 
-// Places for so many responses.
-fn no_responses(
+// Places for so many replies.
+fn no_replies(
     alloc: Global,
     count: usize,
-) -> Result<Vec<Result<Response<DocketId>, Refusal>>, AllocError> {
-    let mut responses = Vec::new(alloc);
+) -> Result<Vec<Result<Reply<Slip>, Refusal>>, AllocError> {
+    let mut replies = Vec::new(alloc);
     for _ in 0..count {
-        responses.push(Err(Refusal::TooShort))?;
+        replies.push(Err(Refusal::TooShort))?;
     }
-    Ok(responses)
+    Ok(replies)
 }
 
-// Prints what each step answered, and the refusals of those that cannot be read between them.
-fn print_responses(
+// Prints what each step replied, and the refusals of those that cannot be read between them.
+fn print_replies(
     rt: &HostRuntime,
     steps: &[u8],
-    responses: &[Result<Response<DocketId>, Refusal>],
+    replies: &[Result<Reply<Slip>, Refusal>],
 ) -> io::Result<()> {
-    let mut answered = responses.iter();
+    let mut replied = replies.iter();
     for bytes in steps.chunks_exact(12) {
-        let response = match read_operation(bytes) {
-            Ok(_) => *answered.next().unwrap_or(&Err(Refusal::TooShort)),
+        let reply = match read_move(bytes) {
+            Ok(_) => *replied.next().unwrap_or(&Err(Refusal::TooShort)),
             Err(why) => Err(why),
         };
-        match response {
-            Ok(response) => print_response(rt, response)?,
+        match reply {
+            Ok(reply) => print_reply(rt, reply)?,
             Err(why) => println!(rt; "refused {why}")?,
         }
     }
     Ok(())
 }
 
-// A room in which steps were made, with the tables that are brought to its calls.
+// A room that was worked, with the tables that are brought to its calls.
+// Each program has its own: inherent impls stay in the type's crate, so one of another crate could have no methods here.
 #[derive(Drop)]
-struct Session<'t> {
+struct Desk<'t> {
     room: Room,
     logs: &'t mut [Letter<Job>],
     holds: &'t mut [Letter<Job>],
 }
 
-impl Session<'_> {
+impl Desk<'_> {
     fn print_log(&self, rt: &HostRuntime, seat: u8) -> io::Result<()> {
         print!(rt; "log {seat}")?;
         if let Ok(log) = self.room.log(self.logs, self.holds, seat) {
@@ -186,9 +185,10 @@ impl Session<'_> {
     }
 
     fn print_seats(&self, rt: &HostRuntime, seats: u8) -> io::Result<()> {
+        // A seat's number is what the calls take; nothing is looked up by it here.
         for seat in 0..seats {
             self.print_log(rt, seat)?;
-            print_refusal(rt, self.print_jobs(rt, seat))?;
+            tell(rt, self.print_jobs(rt, seat))?;
         }
         Ok(())
     }
@@ -207,15 +207,15 @@ fn live_on_pair<C: Carrier<Body = Job> + Drop, D: Carrier<Body = Job> + Drop>(
     let mut pair = Pair::new(first, second);
     let mut logs = [blank; PLACES];
     let mut holds = [blank; PLACES];
-    let asked = read_operations(rt.alloc(), steps)?;
-    let mut responses = no_responses(rt.alloc(), asked.len())?;
+    let asked = read_moves(rt.alloc(), steps)?;
+    let mut replies = no_replies(rt.alloc(), asked.len())?;
     run::check(
         &draft,
         &logs,
         &holds,
         &pair,
         asked.as_slice(),
-        responses.as_slice(),
+        replies.as_slice(),
     )?;
     let ended = run::run::<Job, Pair<C, D>, JobList>(
         draft,
@@ -223,16 +223,16 @@ fn live_on_pair<C: Carrier<Body = Job> + Drop, D: Carrier<Body = Job> + Drop>(
         &mut holds,
         &mut pair,
         asked.as_slice(),
-        responses.as_mut_slice(),
+        replies.as_mut_slice(),
     );
     let room = ended.park_all();
-    print_responses(rt, steps, responses.as_slice())?;
-    let session = Session {
+    print_replies(rt, steps, replies.as_slice())?;
+    let desk = Desk {
         room,
         logs: &mut logs,
         holds: &mut holds,
     };
-    session.print_seats(rt, seats)?;
+    desk.print_seats(rt, seats)?;
     Ok(())
 }
 
@@ -246,7 +246,7 @@ fn enrol_all(draft: &mut Draft, seats: u8) -> Result<(), Refusal> {
 }
 
 fn live(rt: &HostRuntime, setting: Setting, steps: &[u8]) -> Result<(), Stop> {
-    let blank = Letter::blank(Job::Add(0));
+    let blank = Letter::make(Stamp { entries: [1; 16] }, 0, Job::Add(0));
     let mut queues = [blank; QUEUES];
     let mut bytes = [0; BYTES];
     Draft::check(setting.quota)?;
@@ -287,5 +287,5 @@ fn main(rt: HostRuntime) -> io::Result<()> {
         quota: u16::from_le_bytes([low, high]),
         size: size as u32,
     };
-    print_refusal(&rt, live(&rt, setting, steps))
+    tell(&rt, live(&rt, setting, steps))
 }

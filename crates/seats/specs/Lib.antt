@@ -1,6 +1,6 @@
 pub mod Seats
 pub mod Rooms
-pub mod Invariants
+pub mod Keeping
 pub mod Outcomes
 pub mod Scans
-pub mod TakeTexts
+pub mod Takings

@@ -16,7 +16,7 @@ pub record RoomState : Type 0 where
 abbrev pub seat_at : RoomState → ℕ → Seat
 seat_at st s = slice_index_or st.seats s blank
 
--- the room with one seat written
+-- the room with one seat told
 abbrev pub with_seat : RoomState → ℕ → Seat → RoomState
 with_seat st s x = record { number = st.number; names = st.names; count = st.count; quota = st.quota; seats = slice_set st.seats s x }
 
@@ -41,5 +41,5 @@ module _ {B : Type 0} where
   hold_of st holds s = take (seat_at st s).held (drop (start st s) holds)
 
 -- a table after the n elements behind the place `at` moved down by one
-abbrev pub table_closed_up : {X : Type 0} → List X → ℕ → ℕ → List X
-table_closed_up table at n = paste table at (drop (at + 1) table) n
+abbrev pub closed : {X : Type 0} → List X → ℕ → ℕ → List X
+closed table at n = paste table at (drop (at + 1) table) n

@@ -3,19 +3,20 @@ ghost use Rattle.std.specs.Prelude.{◌≡◌};
 ghost use Rattle.std.specs.Option.{option_map};
 ghost use Rattle.letters.specs.Letters.{entry_at};
 ghost use Rattle.letters.specs.Order.{Ready, ready};
-ghost use Rattle.seats.specs.Outcomes.{first_passing, is_called};
+ghost use Rattle.seats.specs.Outcomes.{first, is_called};
 ghost use Rattle.seats.specs.Scans.{FirstSuch, due};
 
 use letters::letter::Letter;
 use letters::stamp::Stamp;
 
-// The first letter with this name, with its place. The name may be one that no letter has.
+// The first letter with this name, with its place. A name that is asked for may be one that no letter has, so it is no
+// `LetterId`.
 pub fn find_named<B: Copy>(
     letters: &[Letter<B>],
     poster: u8,
     number: u16,
 ) -> Option<(usize, &Letter<B>)>
-    ensures { option_map (λ p. (p.0, p.1.now)) result ≡ first_passing (is_called poster number) 0 letters.now }
+    ensures { option_map (λ p. (p.0, p.1.now)) result ≡ first (is_called poster number) 0 letters.now }
 {
     // No letter is copied: not those that are looked at, and not the one that is found.
     for (at, letter) in letters.iter().enumerate() {
@@ -26,6 +27,7 @@ pub fn find_named<B: Copy>(
     None
 }
 
+// Whether the letter has this name.
 fn is_named<B: Copy>(letter: &Letter<B>, poster: u8, number: u16) -> bool
     ensures { result ≡ is_called poster number letter.now }
 {
@@ -41,7 +43,7 @@ pub fn first_ready<'h, B: Copy>(
     seat: u8,
     clock: &Stamp,
 ) -> Option<(usize, &'h Letter<B>)>
-    ensures answer { option_map (λ p. (p.0, p.1.now)) result ≡ first_passing (ready count quota seat clock.now) 0 hold.now }
+    ensures answer { option_map (λ p. (p.0, p.1.now)) result ≡ first (ready count quota seat clock.now) 0 hold.now }
     ensures decides { FirstSuch (Ready count quota seat (entry_at clock.now)) hold.now (option_map (λ p. (p.0, p.1.now)) result) }
 {
     'arrivals: for (at, letter) in hold.iter().enumerate() {
@@ -66,7 +68,7 @@ fn is_due<B: Copy>(letter: &Letter<B>, count: u8, quota: u16, seat: u8, clock: &
 {
     let poster = letter.poster();
     let number = letter.number();
-    // A letter's number is not 0. What most letters of a hold fail is tested first.
+    // A letter's number is not 0. What most letters of a hold fail is asked first.
     number - 1 == clock.entries[poster as usize]
         && poster < count
         && poster != seat

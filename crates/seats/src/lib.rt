@@ -1,8 +1,8 @@
-// What a room keeps for its seats, and what each call on a room answers and leaves.
+// What a room keeps for its seats, and what each call on a room comes to.
 #![tactic(auto)]
 
-pub mod docket_id;
 pub mod finding;
 pub mod parts;
 pub mod seat;
-pub mod take_outcome;
+pub mod slip;
+pub mod taken;

@@ -3,6 +3,7 @@ pub mod Sheets
 pub mod Scans
 pub mod Inserts
 pub mod Orders
-pub mod Rising
-pub mod Removing
-pub mod Replacing
+pub mod Jobs
+pub mod Closing
+pub mod Opening
+pub mod Codes

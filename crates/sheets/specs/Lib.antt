@@ -1,7 +1,11 @@
 pub mod Pages
 pub mod Sheets
 pub mod Placing
-pub mod OrderLemmas
-pub mod BesideLemmas
-pub mod FilterLemmas
-pub mod RowLemmas
+pub mod RowOrder
+pub mod Timelines
+pub mod OpenJobs
+pub mod JobLists
+pub mod JobSwaps
+pub mod Beside
+pub mod Filters
+pub mod Rows

@@ -1,6 +1,10 @@
-// Sheets: what results from a log of letters, in whatever order side-by-side letters stand in it.
+// Sheets: what a log of letters comes to, whatever order side-by-side letters came in.
 #![tactic(auto)]
 
+pub mod job_list;
+pub mod open_job;
 pub mod pages;
-pub mod placing;
+mod placing;
+pub mod row;
 pub mod sheet;
+pub mod timeline;

@@ -1,13 +1,13 @@
 // Sheets of every kind, and how a log is drawn up on one.
 ghost use Rattle.std.specs.Prelude.{◌≡◌, ℕ, ◌<◌, length};
-ghost use Rattle.letters.specs.Refusals.{as_answer};
-ghost use Rattle.sheets.specs.Sheets.{Converges, Kind, LawfulKind, acceptance, draw_up_outcome, enter_outcome, meaning_left};
+ghost use Rattle.letters.specs.Refusals.{told};
+ghost use Rattle.sheets.specs.Sheets.{Converges, Kind, Lawful, answered, draw_up_outcome, enter_outcome, left_by};
 
 use letters::body::Body;
 use letters::letter::Letter;
 use letters::refusal::Refusal;
 
-// A kind of sheet: what results from the letters of a log when they are entered one by one.
+// A kind of sheet: something that the letters of a log come to when they are entered one by one.
 // The law is that letters which are side by side may be entered in either order.
 pub trait Sheet {
     type Body: Body;
@@ -33,21 +33,21 @@ pub trait Sheet {
     fn clear(&mut self)
         ensures { meaning self.new ≡ kind.empty };
 
-    // Enters a letter; 18 where no place is free, and the sheet's meaning stays.
+    // Enters a letter; 18 where no place is free, and what the sheet means stays.
     fn enter(&mut self, letter: &Letter<Self::Body>) -> Result<(), Refusal>
-        ensures answer { as_answer (λ u. u) result ≡ acceptance (enter_outcome kind (meaning self.old) letter.now) }
-        ensures leaves { meaning self.new ≡ meaning_left (enter_outcome kind (meaning self.old) letter.now) (meaning self.old) };
+        ensures answer { told (λ u. u) result ≡ answered (enter_outcome kind (meaning self.old) letter.now) }
+        ensures leaves { meaning self.new ≡ left_by (enter_outcome kind (meaning self.old) letter.now) (meaning self.old) };
 
     ghost sized: { kind.places ≡ PLACES };
 
-    ghost lawful: { LawfulKind kind };
+    ghost lawful: { Lawful kind };
 }
 
 // Clears the sheet and enters the letters of the log from the top; 17 where the log is longer than the sheet has places.
-// Two logs that hold the same letters, in whatever causal orders, give the same meaning.
+// Two logs that hold the same letters, in whatever causal orders, come to the same.
 pub fn draw_up<K: Sheet>(sheet: &mut K, log: &[Letter<K::Body>]) -> Result<(), Refusal>
-    ensures answer { as_answer (λ u. u) result ≡ acceptance (draw_up_outcome K.Sheet.kind log.now) }
-    ensures leaves { K.Sheet.meaning sheet.new ≡ meaning_left (draw_up_outcome K.Sheet.kind log.now) (K.Sheet.meaning sheet.old) }
+    ensures answer { told (λ u. u) result ≡ answered (draw_up_outcome K.Sheet.kind log.now) }
+    ensures leaves { K.Sheet.meaning sheet.new ≡ left_by (draw_up_outcome K.Sheet.kind log.now) (K.Sheet.meaning sheet.old) }
     ensures untouched { K.Sheet.kind.places < length log.now → sheet.new ≡ sheet.old }
     ensures converges { Converges K.Sheet.kind }
 {

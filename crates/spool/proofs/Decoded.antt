@@ -1,14 +1,13 @@
 -- The letter that bytes stand for: that of which they are the record.
 use Rattle.std.proofs.Common.{◌≡◌, ℕ, Bool, true, false, List, length, take, Some, None, Err, Option, sym, refl, ap, ◌∙◌, arith}
 use Rattle.std.proofs.lemmas.List.{take_all}
-use Rattle.std.proofs.lemmas.Bool.{and_from, both_ways, eq-eqb}
+use Rattle.std.proofs.lemmas.Bool.{and_from, both_ways, eq-eqb, lt-ltb}
 use Rattle.letters.specs.declared.letter.Letter.{Letter}
-use Rattle.letters.specs.Forms.{Form, LawfulForm}
+use Rattle.letters.specs.Forms.{Form, Lawful}
 use Rattle.letters.specs.declared.parts.Parts.{Parts}
-use Rattle.letters.specs.Letters.{blank_letter, parts_of}
+use Rattle.letters.specs.Letters.{parts_of}
 use Rattle.letters.specs.ChecksLemmas.{some_none}
-use Rattle.letters.specs.SameLemmas.{equal_letters}
-use Rattle.letters.proofs.Passing.{letter_is}
+use Rattle.letters.specs.Same.{same_letter}
 use Rattle.records.specs.declared.fault.Fault.{Fault}
 use Rattle.records.specs.Faults.{fault_reason}
 use Rattle.records.specs.Reading.{Undoes, read_answer}
@@ -16,21 +15,21 @@ use Rattle.records.specs.declared.record.TheConstants.{RECORD_SIZE}
 use Rattle.records.specs.Records.{record_of, wrong_byte, wrong_front}
 use Rattle.records.proofs.Finding.{answered_wrong}
 use Rattle.records.proofs.RoundTrip.{front_whole, record_right, written_back}
-use Rattle.spool.specs.Decoding.{letter_of, letter_or, are_letter_parts, letter_read}
+use Rattle.spool.specs.Decoding.{blank_letter, letter_of, letter_or, letter_parts, letter_read}
 
 module _ {B : Type 0} (blank : B) where
   -- a letter's parts are one's
-  can_be : (m : Letter B) → are_letter_parts (parts_of m) ≡ true
-  can_be m = and_from _ _ (eq-eqb _ _ m.sized) (letter_is m)
+  can_be : (m : Letter B) → letter_parts (parts_of m) ≡ true
+  can_be m = and_from _ _ (eq-eqb _ _ m.sized) (and_from _ _ (lt-ltb _ _ m.seated) (lt-ltb _ _ m.counted))
 
-  or_is : (m : Letter B) (p : Parts B) (can : Bool) (e : are_letter_parts p ≡ can) → p ≡ parts_of m → letter_or blank p can e ≡ m
+  or_is : (m : Letter B) (p : Parts B) (can : Bool) (e : letter_parts p ≡ can) → p ≡ parts_of m → letter_or blank p can e ≡ m
   unfolding letter_or
-  or_is m p true e same = equal_letters _ m (ap (λ q. q.stamp) same) (ap (λ q. q.poster) same) (ap (λ q. q.body) same)
-  or_is m p false e same = absurd (both_ways (are_letter_parts p) e (ap are_letter_parts same ∙ can_be m))
+  or_is m p true e same = same_letter _ m (ap (λ q. q.stamp) same) (ap (λ q. q.poster) same) (ap (λ q. q.body) same)
+  or_is m p false e same = absurd (both_ways (letter_parts p) e (ap letter_parts same ∙ can_be m))
 
   read_is : (m : Letter B) (p : Parts B) (f : Option ℕ) → f ≡ None → p ≡ parts_of m → letter_read blank p f ≡ m
   unfolding letter_read
-  read_is m p None e same = or_is m p (are_letter_parts p) refl same
+  read_is m p None e same = or_is m p (letter_parts p) refl same
   read_is m p (Some place) e same = some_none place e
 
   read_bad : (p : Parts B) (f : Option ℕ) (place : ℕ) → f ≡ Some place → letter_read blank p f ≡ blank_letter blank
@@ -38,7 +37,7 @@ module _ {B : Type 0} (blank : B) where
   read_bad p None place e = some_none place (sym e)
   read_bad p (Some other) place e = refl
 
-  module _ (form : Form B) (laws : LawfulForm form) where
+  module _ (form : Form B) (laws : Lawful form) where
     -- reading undoes writing
     pub letter_back : (m : Letter B) → letter_of form blank (record_of form m) ≡ m
     letter_back m = read_is m _ _ (record_right form laws m) (written_back form laws (parts_of m) m.sized)

@@ -1,4 +1,4 @@
--- The rows that a row buffer lends, one by one.
+-- The rows that a tape lends, one by one.
 use Rattle.std.proofs.Common.{◌≡◌, false, true, ℕ, zero, suc, ◌+◌, ◌-◌, ◌*◌, ◌^◌, min, cond, slice_get, is_some, Option, Some, None, Ok, Err, Result, OkIff, ⊎_elim, ◌<◌, ◌≤◌, Bool, inl, inr, add-one, List, [], ◌∷◌, length, get_or, take, drop, sym, refl, ap, ◌∙◌, subst, arith}
 use Rattle.std.proofs.lemmas.List.{drop-drop, take_all}
 use Rattle.std.proofs.lemmas.List.Sums.{count_by_more_no, count_by_more_yes, sum_by-cons}
@@ -9,7 +9,7 @@ use Rattle.std.specs.Option.{option_map, unwrap_or}
 use Rattle.std.specs.Result.{result_unwrap_or}
 use Rattle.std.specs.Simd.{first_chunks}
 use Rattle.spool.specs.Masks.{marked}
-use Rattle.spool.specs.declared.row_buffer.TheConstants.{ROW_SIZE}
+use Rattle.spool.specs.declared.tape.TheConstants.{ROW_SIZE}
 use Rattle.spool.specs.Rows.{marks_at, mask_of, picks, row_at}
 use Rattle.spool.proofs.Picks.{picks_yes, picks_not}
 

@@ -1,6 +1,6 @@
 pub mod Masks
-pub mod MaskLemmas
+pub mod MaskLaws
 pub mod Rows
 pub mod Decoding
 pub mod Spools
-pub mod SpoolLemmas
+pub mod SpoolLaws

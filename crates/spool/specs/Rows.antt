@@ -1,11 +1,11 @@
--- Rows: each a letter's record, and a mask of the seats that have yet to draw it.
+-- Rows of 98 bytes: a letter's record and a mask of the seats that have yet to draw it.
 use Rattle.std.specs.Prelude.{ℕ, zero, suc, ◌+◌, ◌*◌, Bool, cond, List, [], ◌∷◌, ◌++◌, take, Ok, Result, nat_le}
 use Rattle.letters.specs.Numbers.{number_16}
 use Rattle.letters.specs.Refusals.{Reason, unless}
 use Rattle.carriers.specs.Places.{part_at}
 use Rattle.carriers.specs.Meaning.{seats_right}
 use Rattle.records.specs.declared.record.TheConstants.{RECORD_SIZE}
-use Rattle.spool.specs.declared.row_buffer.TheConstants.{ROW_SIZE}
+use Rattle.spool.specs.declared.tape.TheConstants.{ROW_SIZE}
 use Rattle.spool.specs.Masks.{marked}
 
 -- what the check before a spool is made answers, for so many bytes brought

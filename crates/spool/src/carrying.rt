@@ -1,32 +1,32 @@
 // Making a spool, and a spool as a carrier.
 ghost use Rattle.std.specs.Prelude.{◌≡◌, ◌<◌, true, length, Ok, OnOk, slice_get};
 ghost use Rattle.letters.specs.Letters.{parts_of};
-ghost use Rattle.letters.specs.Refusals.{as_answer};
+ghost use Rattle.letters.specs.Refusals.{told};
 ghost use Rattle.carriers.specs.Appending.{Appends};
 ghost use Rattle.carriers.specs.Meaning.{DrawLeaves, Drawn, Empty, PutLeaves, draw_answer, put_answer};
-ghost use Rattle.carriers.specs.RestingLemmas.{as_it_was};
+ghost use Rattle.carriers.specs.Resting.{as_it_was};
 ghost use Rattle.std.specs.Result.{OnErr};
 ghost use Rattle.std.specs.List.{count_by, enumerate_from, filter};
 ghost use Rattle.std.specs.Option.{option_map};
 ghost use Rattle.spool.specs.Masks.{marked};
 ghost use Rattle.spool.specs.Rows.{mask_of, marks_at, spool_answer};
-ghost use Rattle.spool.specs.SpoolLemmas.{lawful_spool};
+ghost use Rattle.spool.specs.SpoolLaws.{lawful_spool};
 ghost use Rattle.spool.specs.Spools.{AddsRow, DrawsRow, StandsAt, StrikesRow, place_of, spool_of};
 
 use crate::Spool;
 use crate::masks::{all_but, is_done, marks};
-use crate::row_buffer::{ROW_SIZE, RowBuffer, mask_of};
+use crate::stored::Stored;
+use crate::tape::{ROW_SIZE, Tape, mask_of};
 use carriers::carrier::Carrier;
-use letters::body::Body;
 use letters::letter::Letter;
 use letters::parts::Parts;
 use letters::refusal::Refusal;
 use std::marker::PhantomData;
 
-impl<'a, B: Body> Spool<'a, B> {
+impl<'a, B: Stored> Spool<'a, B> {
     // Whether a spool for so many seats can be made of the bytes: 6, then 5.
     pub fn check(buffer: &[u8], seats: u8) -> Result<(), Refusal>
-        ensures { as_answer (λ u. u) result ≡ spool_answer seats (length buffer.now) }
+        ensures { told (λ u. u) result ≡ spool_answer seats (length buffer.now) }
     {
         if seats == 0 || seats > 16 {
             return Err(Refusal::WrongSeatCount);
@@ -42,10 +42,10 @@ impl<'a, B: Body> Spool<'a, B> {
         requires { spool_answer seats (length buffer.old) ≡ Ok tt }
         ensures seats { result.seats ≡ seats }
         ensures empty { Empty (spool_of B.form B.blank result) }
-        ensures buffer { (result.row_buffer.bytes.now ≡ buffer.old) × (result.row_buffer.bytes.ghost_name ≡ buffer.entry.ghost_name) }
+        ensures buffer { (result.tape.bytes.now ≡ buffer.old) × (result.tape.bytes.ghost_name ≡ buffer.entry.ghost_name) }
     {
         Spool {
-            row_buffer: RowBuffer { bytes: buffer },
+            tape: Tape { bytes: buffer },
             rows: 0,
             seats,
             body: PhantomData,
@@ -60,31 +60,32 @@ impl<'a, B: Body> Spool<'a, B> {
         if place == u32::MAX {
             return None;
         }
-        let (row, _) = nth_marked(self.row_buffer.rows(self.rows), seat, place as usize)?;
+        let (row, _) = nth_marked(self.tape.rows(self.rows), seat, place as usize)?;
         Some(row)
     }
 
-    // Clears a seat's bit in a row, and removes the row where no bit is left.
+    // Takes a seat's bit out of a row, and the row out where no bit is left.
     fn strike(&mut self, row: usize, seat: u8)
         requires seat { seat < self.old.seats }
         requires row { row < self.old.rows }
-        requires marked { marks_at self.old.row_buffer.bytes.now seat row ≡ true }
+        requires marked { marks_at self.old.tape.bytes.now seat row ≡ true }
         ensures lists { Drawn (spool_of B.form B.blank self.old) seat (place_of B.form B.blank self.old seat row) (spool_of B.form B.blank self.new) }
         ensures row { StrikesRow self.old row seat self.new }
-        ensures long { length self.new.row_buffer.bytes.now ≡ length self.old.row_buffer.bytes.now }
-        ensures lender { self.new.row_buffer.bytes.ghost_name ≡ self.old.row_buffer.bytes.ghost_name }
+        ensures long { length self.new.tape.bytes.now ≡ length self.old.tape.bytes.now }
+        ensures lender { self.new.tape.bytes.ghost_name ≡ self.old.tape.bytes.ghost_name }
     {
-        let left = mask_of(&self.row_buffer.rows(self.rows)[row]) ^ (1 << seat);
+        let left = mask_of(&self.tape.rows(self.rows)[row]) ^ (1 << seat);
         if is_done(left) {
-            self.row_buffer.close_up(row, self.rows);
+            self.tape.close_up(row, self.rows);
             self.rows -= 1;
         } else {
-            self.row_buffer.set_mask(row, left);
+            self.tape.set_mask(row, left);
         }
     }
 }
 
-// The row at a place among those with a seat's bit, with its number.
+// The row at a place among those with a seat's bit, with its number. That the seat is below 16 is asked here, below and in
+// `marks` alone: the calls of a carrier take any `u8`, and a type of seats would be no plainer for three private functions.
 fn nth_marked(rows: &[[u8; ROW_SIZE]], seat: u8, place: usize) -> Option<(usize, &[u8; ROW_SIZE])>
     requires { seat < 16 }
     ensures { option_map (λ p. (p.0, p.1.now)) result ≡ slice_get (filter (λ p. marked (mask_of p.1) seat) (enumerate_from 0 rows.now)) place }
@@ -103,7 +104,7 @@ fn count_marked(rows: &[[u8; ROW_SIZE]], seat: u8) -> usize
     rows.iter().filter(|row| marks(mask_of(row), seat)).count()
 }
 
-impl<'a, B: Body> Carrier for Spool<'a, B> {
+impl<'a, B: Stored> Carrier for Spool<'a, B> {
     type Body = B;
 
     ghost meaning = { λ s. spool_of B.form B.blank s };
@@ -124,21 +125,21 @@ impl<'a, B: Body> Carrier for Spool<'a, B> {
         if seat >= self.seats {
             return 0;
         }
-        let count = count_marked(self.row_buffer.rows(self.rows), seat);
+        let count = count_marked(self.tape.rows(self.rows), seat);
         u32::try_from(count).unwrap_or(u32::MAX)
     }
 
     fn fits(&self, poster: u8) -> bool {
-        poster < self.seats && self.row_buffer.bytes.len() - self.rows * ROW_SIZE >= ROW_SIZE
+        poster < self.seats && self.tape.bytes.len() - self.rows * ROW_SIZE >= ROW_SIZE
     }
 
     fn put(&mut self, letter: &Letter<B>) -> Result<(), Refusal>
-        ensures answer { as_answer (λ u. u) result ≡ put_answer (spool_of B.form B.blank self.old) letter.now.poster }
+        ensures answer { told (λ u. u) result ≡ put_answer (spool_of B.form B.blank self.old) letter.now.poster }
         ensures leaves { PutLeaves result (spool_of B.form B.blank self.old) letter.now.poster letter.now (spool_of B.form B.blank self.new) }
         ensures once { OnOk result (Appends (spool_of B.form B.blank self.old) letter.now.poster letter.now (spool_of B.form B.blank self.new)) }
         ensures row { AddsRow B.form result self.old letter.now self.new }
-        ensures long { length self.new.row_buffer.bytes.now ≡ length self.old.row_buffer.bytes.now }
-        ensures lender { self.new.row_buffer.bytes.ghost_name ≡ self.old.row_buffer.bytes.ghost_name }
+        ensures long { length self.new.tape.bytes.now ≡ length self.old.tape.bytes.now }
+        ensures lender { self.new.tape.bytes.ghost_name ≡ self.old.tape.bytes.ghost_name }
         ensures rests { OnErr result (self.new ≡ self.old) }
     {
         let poster = letter.poster();
@@ -150,19 +151,19 @@ impl<'a, B: Body> Carrier for Spool<'a, B> {
         }
         let mask = all_but(self.seats, poster);
         if !is_done(mask) {
-            self.row_buffer.write(self.rows, letter);
-            self.row_buffer.set_mask(self.rows, mask);
+            self.tape.write(self.rows, letter);
+            self.tape.set_mask(self.rows, mask);
             self.rows += 1;
         }
         Ok(())
     }
 
     fn draw(&mut self, seat: u8, place: u32, parts: &mut Parts<B>) -> Result<(), Refusal>
-        ensures answer { as_answer (λ u. u) result ≡ draw_answer (spool_of B.form B.blank self.old) seat place }
+        ensures answer { told (λ u. u) result ≡ draw_answer (spool_of B.form B.blank self.old) seat place }
         ensures leaves { DrawLeaves parts_of result (spool_of B.form B.blank self.old) seat place (spool_of B.form B.blank self.new) parts.old parts.new }
         ensures row { DrawsRow B.form B.blank result self.old seat place self.new }
-        ensures long { length self.new.row_buffer.bytes.now ≡ length self.old.row_buffer.bytes.now }
-        ensures lender { self.new.row_buffer.bytes.ghost_name ≡ self.old.row_buffer.bytes.ghost_name }
+        ensures long { length self.new.tape.bytes.now ≡ length self.old.tape.bytes.now }
+        ensures lender { self.new.tape.bytes.ghost_name ≡ self.old.tape.bytes.ghost_name }
         ensures rests { OnErr result (self.new ≡ self.old) }
     {
         if seat >= self.seats {
@@ -171,7 +172,7 @@ impl<'a, B: Body> Carrier for Spool<'a, B> {
         let Some(row) = self.find(seat, place) else {
             return Err(Refusal::UnknownPlace);
         };
-        self.row_buffer.read(row, parts);
+        self.tape.read(row, parts);
         self.strike(row, seat);
         Ok(())
     }

@@ -2,27 +2,29 @@
 #![tactic(auto)]
 
 ghost use Rattle.std.specs.Prelude.{ℕ, ◌*◌, ◌^◌, ◌<◌, ◌≤◌, length};
-ghost use Rattle.spool.specs.declared.row_buffer.TheConstants.{ROW_SIZE};
+ghost use Rattle.spool.specs.declared.tape.TheConstants.{ROW_SIZE};
 ghost use Rattle.spool.specs.Rows.{mask_of, row_at};
 
-use crate::row_buffer::RowBuffer;
+use crate::tape::Tape;
 use std::marker::PhantomData;
 
 pub mod carrying;
 mod masks;
-pub mod row_buffer;
+pub mod stored;
+mod tape;
 
 // The first rows of the buffer hold the letters that wait, in the order of their puts.
+// The buffer is lent, so no vector stands for the rows and their count.
 #[derive(Drop)]
 pub struct Spool<'a, B> {
-    row_buffer: RowBuffer<'a>,
+    tape: Tape<'a>,
     rows: usize,
     seats: u8,
     body: PhantomData<B>,
     ghost some: { 1 ≤ seats },
     ghost few: { seats ≤ 16 },
-    ghost spacious: { ROW_SIZE ≤ length row_buffer.bytes.now },
-    ghost whole: { rows * ROW_SIZE ≤ length row_buffer.bytes.now },
-    ghost wanted: { (r : ℕ) → r < rows → 0 < mask_of (row_at row_buffer.bytes.now r) },
-    ghost seated: { (r : ℕ) → r < rows → mask_of (row_at row_buffer.bytes.now r) < 2 ^ seats },
+    ghost spacious: { ROW_SIZE ≤ length tape.bytes.now },
+    ghost whole: { rows * ROW_SIZE ≤ length tape.bytes.now },
+    ghost wanted: { (r : ℕ) → r < rows → 0 < mask_of (row_at tape.bytes.now r) },
+    ghost seated: { (r : ℕ) → r < rows → mask_of (row_at tape.bytes.now r) < 2 ^ seats },
 }

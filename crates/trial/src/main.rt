@@ -20,7 +20,7 @@ const LETTERS: usize = 64;
 
 const BYTES: usize = 1024;
 
-// What a carrier is asked, as it is read from bytes.
+// What a carrier is asked: data, as it is read from bytes, and no closure.
 #[derive(Clone, Copy)]
 enum Step {
     // puts a letter that adds a job
@@ -62,6 +62,7 @@ struct Setting {
 }
 
 // Why the trial of a make ends before its steps are done: what is refused is printed, and the next make is tried.
+// Each program has its own: a crate for an error enum of two cases would be no plainer.
 #[derive(Debug, Drop)]
 enum Stop {
     Refused(Refusal),
@@ -96,14 +97,16 @@ impl From<&[u8; 10]> for Setting {
 }
 
 impl Setting {
+    // How many letters are brought.
     fn letters_brought(&self) -> usize
-        ensures { result ≤ LETTERS }
+        ensures { result ≤ 64 }
     {
         self.letters.min(LETTERS)
     }
 
+    // How many bytes are brought.
     fn bytes_brought(&self) -> usize
-        ensures { result ≤ BYTES }
+        ensures { result ≤ 1024 }
     {
         self.bytes.min(BYTES)
     }
@@ -112,13 +115,10 @@ impl Setting {
 // A letter whose stamp counts up from its number, seat by seat.
 fn make_letter(poster: u8, number: u16, code: u32) -> Result<Letter<Job>, Refusal> {
     let entries = array::from_fn(|seat| number.wrapping_add(seat as u16));
-    Letter::new(Parts {
-        stamp: Stamp { entries },
-        poster,
-        body: Job::Add(code),
-    })
+    Letter::new(Stamp { entries }, poster, Job::Add(code))
 }
 
+// It is no `Display`: a `Result` is of the library, and these words are this program's.
 fn print_answer(rt: &HostRuntime, word: &str, answer: Result<(), Refusal>) -> io::Result<()> {
     match answer {
         Ok(()) => println!(rt; "{word}"),
@@ -126,6 +126,7 @@ fn print_answer(rt: &HostRuntime, word: &str, answer: Result<(), Refusal>) -> io
     }
 }
 
+// It is no `Display` either: the parts are of another crate.
 fn print_parts(rt: &HostRuntime, parts: &Parts<Job>) -> io::Result<()> {
     let poster = parts.poster;
     print!(rt; "page {poster}")?;
@@ -200,7 +201,8 @@ impl Trial<'_> {
     fn take_steps<C: Carrier<Body = Job>>(&self, carrier: &mut C) -> io::Result<()> {
         let mut parts = Parts {
             stamp: Stamp { entries: [0; 16] },
-            ..Letter::blank(Job::Add(0)).parts()
+            poster: 0,
+            body: Job::Add(0),
         };
         for bytes in self.steps.chunks_exact(8) {
             take_step(self.rt, carrier, &mut parts, Step::from(bytes))?;
@@ -275,15 +277,15 @@ impl Trial<'_> {
 fn main(rt: HostRuntime) -> io::Result<()> {
     let mut input = Vec::new(rt.alloc());
     let _count = rt.stdin().read_to_end(&mut input)?;
-    match input.as_slice().split_first_chunk() {
-        Some((head, steps)) => {
+    match (input.as_slice().split_first_chunk(), make_letter(0, 1, 0)) {
+        (Some((head, steps)), Ok(blank)) => {
             let trial = Trial {
                 rt: &rt,
                 setting: Setting::from(head),
                 steps,
             };
-            trial.on_all(Letter::blank(Job::Add(0)))
+            trial.on_all(blank)
         }
-        None => Err(io::Error::from(io::ErrorKind::InvalidInput)),
+        _ => Err(io::Error::from(io::ErrorKind::InvalidInput)),
     }
 }

@@ -1,8 +1,8 @@
 // Making letters, and reading their parts.
 ghost use Rattle.std.specs.Prelude.{◌≡◌, sum, Ok};
-ghost use Rattle.letters.specs.Letters.{blank_letter, entry_at, letter_answer, letter_check, letter_name, number_of, parts_of};
+ghost use Rattle.letters.specs.Letters.{entry_at, letter_answer, letter_check, letter_name, number_of, parts, parts_of};
 ghost use Rattle.letters.specs.Names.{name_of};
-ghost use Rattle.letters.specs.Refusals.{as_answer};
+ghost use Rattle.letters.specs.Refusals.{told};
 
 use crate::letter::Letter;
 use crate::letter_id::LetterId;
@@ -27,41 +27,40 @@ impl Stamp {
     {
         self.entries.iter().map(|entry| u32::from(*entry)).sum()
     }
+
+    // Whether a letter of this poster can have the stamp; 20 where the poster is no seat or its entry is 0.
+    pub fn check_poster(&self, poster: u8) -> Result<(), Refusal>
+        ensures { told (λ u. u) result ≡ letter_check self.now poster }
+    {
+        if poster >= 16 || self.entries[poster as usize] == 0 {
+            return Err(Refusal::BadRecord);
+        }
+        Ok(())
+    }
 }
 
 impl<B: Copy> Letter<B> {
     // The letter of parts that were checked, as a post makes it.
-    pub fn make(parts: Parts<B>) -> Letter<B>
-        requires { letter_check parts ≡ Ok tt }
-        ensures { parts_of result ≡ parts }
+    pub fn make(stamp: Stamp, poster: u8, body: B) -> Letter<B>
+        requires { letter_check stamp poster ≡ Ok tt }
+        ensures { parts_of result ≡ parts stamp poster body }
     {
         Letter {
-            stamp: parts.stamp,
-            poster: parts.poster,
-            body: parts.body,
+            stamp,
+            poster,
+            body,
         }
     }
 
     // The letter of any parts; those that no letter can have are refused with 20.
-    pub fn new(parts: Parts<B>) -> Result<Letter<B>, Refusal>
-        ensures { as_answer parts_of result ≡ letter_answer parts }
+    pub fn new(stamp: Stamp, poster: u8, body: B) -> Result<Letter<B>, Refusal>
+        ensures { told parts_of result ≡ letter_answer stamp poster body }
     {
-        parts.check()?;
-        Ok(Letter::make(parts))
+        stamp.check_poster(poster)?;
+        Ok(Letter::make(stamp, poster, body))
     }
 
-    // The plainest letter that carries this body: 0.1, stamped 1 throughout. It fills tables and lends its parts.
-    pub fn blank(body: B) -> Letter<B>
-        ensures { parts_of result ≡ parts_of (blank_letter body) }
-    {
-        Letter::make(Parts {
-            stamp: Stamp { entries: [1; 16] },
-            poster: 0,
-            body,
-        })
-    }
-
-    // The stamp, the poster and the body.
+    // Its parts.
     pub fn parts(&self) -> Parts<B>
         ensures { result ≡ parts_of self.now }
     {
@@ -97,7 +96,7 @@ impl<B: Copy> Letter<B> {
         self.stamp.entries[self.poster as usize]
     }
 
-    // Its name.
+    // What the letter is called.
     pub fn id(&self) -> LetterId
         ensures { name_of result ≡ letter_name self.now }
     {

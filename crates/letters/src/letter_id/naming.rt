@@ -1,16 +1,16 @@
 // Making, reading and writing names of letters.
 ghost use Rattle.std.specs.Prelude.{◌≡◌, ◌<◌, Some};
-ghost use Rattle.letters.specs.Names.{name_answer, name_from, name_of, name_text};
-ghost use Rattle.letters.specs.Refusals.{as_answer};
+ghost use Rattle.letters.specs.Names.{name, name_answer, name_of, name_text};
+ghost use Rattle.letters.specs.Refusals.{told};
 
 use crate::letter_id::LetterId;
 use crate::refusal::Refusal;
 use std::fmt;
 
 impl LetterId {
-    // The name with this poster and number; 20 where the poster is no seat or the number is 0.
+    // The name of a letter that can be; 20 where the poster is no seat or the number is 0.
     pub fn new(poster: u8, number: u16) -> Result<LetterId, Refusal>
-        ensures { as_answer name_of result ≡ name_answer poster number }
+        ensures { told name_of result ≡ name_answer poster number }
     {
         if poster >= 16 || number == 0 {
             return Err(Refusal::BadRecord);
@@ -18,10 +18,10 @@ impl LetterId {
         Ok(LetterId { poster, number })
     }
 
-    // The name of a letter, whose poster is a seat and whose number is not 0.
+    // The name of a letter that is.
     pub(crate) fn of(poster: u8, number: u16) -> LetterId
         requires { (poster < 16) × (0 < number) }
-        ensures { name_of result ≡ name_from poster number }
+        ensures { name_of result ≡ name poster number }
     {
         LetterId { poster, number }
     }

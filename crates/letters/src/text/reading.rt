@@ -3,8 +3,8 @@ ghost use Rattle.std.specs.Prelude.{◌≡◌, ◌≤◌, not, [], ◌++◌, len
 ghost use Rattle.std.specs.List.{position};
 ghost use Rattle.letters.specs.Characters.{printable, text_wrong};
 ghost use Rattle.letters.specs.Numbers.{padded};
-ghost use Rattle.letters.specs.Refusals.{as_answer};
-ghost use Rattle.letters.specs.Texts.{text_answer, text_bytes, text_form, text_of};
+ghost use Rattle.letters.specs.Refusals.{told};
+ghost use Rattle.letters.specs.Texts.{text_answer, text_bytes, text_form};
 ghost use Rattle.letters.specs.TextsLemmas.{text_lawful};
 
 use crate::body::{BODY_SPACE, Body, padded};
@@ -12,9 +12,9 @@ use crate::refusal::Refusal;
 use crate::text::{LONGEST_TEXT, Text};
 
 impl Text {
-    // The text of these bytes; more than sixty, and any that is not a printable character, are refused with 20.
+    // The text of these bytes; more than sixty, and any that is no printable character, are refused with 20.
     pub fn new(bytes: &[u8]) -> Result<Text, Refusal>
-        ensures { as_answer text_bytes result ≡ text_answer bytes.now }
+        ensures { told text_bytes result ≡ text_answer bytes.now }
     {
         match first_wrong(bytes) {
             None => Ok(Text::make(bytes)),
@@ -60,7 +60,7 @@ impl Default for Text {
     }
 }
 
-// The first byte at which these are not a text.
+// The first byte at which these are no text.
 fn first_wrong(bytes: &[u8]) -> Option<u8>
     ensures { result ≡ text_wrong bytes.now }
 {
@@ -71,17 +71,15 @@ fn first_wrong(bytes: &[u8]) -> Option<u8>
     Some(place as u8)
 }
 
-// The first byte that is not a printable character.
+// The first byte that is no printable character.
 fn unprintable(bytes: &[u8]) -> Option<usize>
     ensures { result ≡ position (λ b. not (printable b)) bytes.now }
 {
-    bytes.iter().position(|b| !(b' '..=b'~').contains(b))
+    bytes.iter().position(|b| !(32..=126).contains(b))
 }
 
 impl Body for Text {
     ghost form = { text_form };
-
-    ghost blank = { text_of [] };
 
     ghost lawful = { text_lawful };
 
@@ -111,9 +109,5 @@ impl Body for Text {
 
     fn to_bytes(&self) -> [u8; BODY_SPACE] {
         self.padded_chars()
-    }
-
-    fn make_blank() -> Text {
-        Text::default()
     }
 }

@@ -1,8 +1,9 @@
-ghost use Rattle.std.specs.Prelude.{◌≡◌};
-ghost use Rattle.letters.specs.Refusals.{as_answer};
-ghost use Rattle.seats.specs.Outcomes.{carrier_check, send_letter};
-ghost use Rattle.rooms.specs.States.{ComesBack, docket_as_answer, id_of, state};
-ghost use Rattle.rooms.specs.WithCarrier.{SendLeaves, SendPuts, send_outcome, send_room};
+// Sending.
+ghost use Rattle.std.specs.Prelude.{◌≡◌, length};
+ghost use Rattle.letters.specs.Refusals.{told};
+ghost use Rattle.seats.specs.declared.seat.DocketEvent.TheVariants.{Send};
+ghost use Rattle.seats.specs.Outcomes.{PutOf, PutsOnce, carrier_check, docket_room, send_answer, send_letter};
+ghost use Rattle.rooms.specs.States.{ComesBack, slip, spent, state};
 
 use crate::docket::{Docket, Returned};
 use crate::room::Room;
@@ -10,9 +11,9 @@ use carriers::carrier::Carrier;
 use letters::body::Body;
 use letters::letter::Letter;
 use letters::refusal::Refusal;
-use seats::docket_id::DocketId;
 use seats::finding::find_named;
 use seats::seat::DocketEvent;
+use seats::slip::Slip;
 
 impl Room {
     // Puts the docket's letter, the first such in the seat's log, on the carrier. Refused with 5, 6, 12, 19, 11.
@@ -23,15 +24,15 @@ impl Room {
         carrier: &mut C,
         docket: Docket,
     ) -> Result<(), Returned>
-        ensures answer { docket_as_answer result ≡ send_outcome C.Carrier self.old logs.now holds.now carrier.old (id_of docket) }
+        ensures answer { spent result ≡ send_answer (state self.old) logs.now (length holds.now) (C.Carrier.meaning carrier.old) (slip docket) }
         ensures docket { ComesBack docket result }
-        ensures room { state self.new ≡ send_room C.Carrier self.old logs.now holds.now carrier.old (id_of docket) }
-        ensures once { SendPuts C.Carrier self.old logs.now holds.now carrier.old (id_of docket) carrier.new }
-        ensures carrier { SendLeaves C.Carrier self.old logs.now holds.now carrier.old (id_of docket) carrier.new }
+        ensures room { state self.new ≡ docket_room (state self.old) docket.seat Send (send_answer (state self.old) logs.now (length holds.now) (C.Carrier.meaning carrier.old) (slip docket)) }
+        ensures once { PutsOnce C.Carrier.puts C.Carrier.rests (send_letter (state self.old) logs.now (length holds.now) (C.Carrier.meaning carrier.old).seats (slip docket)) (send_answer (state self.old) logs.now (length holds.now) (C.Carrier.meaning carrier.old) (slip docket)) carrier.old carrier.new }
+        ensures carrier { PutOf (C.Carrier.meaning carrier.old) (send_letter (state self.old) logs.now (length holds.now) (C.Carrier.meaning carrier.old).seats (slip docket)) (send_answer (state self.old) logs.now (length holds.now) (C.Carrier.meaning carrier.old) (slip docket)) (C.Carrier.meaning carrier.new) }
     {
-        match self.send_by_id(logs, holds, carrier, docket.id()) {
+        match self.send_slip(logs, holds, carrier, docket.slip()) {
             Ok(()) => {
-                let _ = docket.into_id();
+                let _ = docket.into_slip();
                 Ok(())
             }
             Err(refusal) => Err(Returned { docket, refusal }),
@@ -39,20 +40,20 @@ impl Room {
     }
 
     // The same, by the numbers of the docket.
-    pub(crate) fn send_by_id<B: Body, C: Carrier<Body = B>>(
+    pub(crate) fn send_slip<B: Body, C: Carrier<Body = B>>(
         &mut self,
         logs: &[Letter<B>],
         holds: &[Letter<B>],
         carrier: &mut C,
-        docket_id: DocketId,
+        slip: Slip,
     ) -> Result<(), Refusal>
-        ensures answer { as_answer (λ u. u) result ≡ send_outcome C.Carrier self.old logs.now holds.now carrier.old docket_id }
-        ensures room { state self.new ≡ send_room C.Carrier self.old logs.now holds.now carrier.old docket_id }
-        ensures once { SendPuts C.Carrier self.old logs.now holds.now carrier.old docket_id carrier.new }
-        ensures carrier { SendLeaves C.Carrier self.old logs.now holds.now carrier.old docket_id carrier.new }
+        ensures answer { told (λ u. u) result ≡ send_answer (state self.old) logs.now (length holds.now) (C.Carrier.meaning carrier.old) slip }
+        ensures room { state self.new ≡ docket_room (state self.old) slip.seat Send (send_answer (state self.old) logs.now (length holds.now) (C.Carrier.meaning carrier.old) slip) }
+        ensures once { PutsOnce C.Carrier.puts C.Carrier.rests (send_letter (state self.old) logs.now (length holds.now) (C.Carrier.meaning carrier.old).seats slip) (send_answer (state self.old) logs.now (length holds.now) (C.Carrier.meaning carrier.old) slip) carrier.old carrier.new }
+        ensures carrier { PutOf (C.Carrier.meaning carrier.old) (send_letter (state self.old) logs.now (length holds.now) (C.Carrier.meaning carrier.old).seats slip) (send_answer (state self.old) logs.now (length holds.now) (C.Carrier.meaning carrier.old) slip) (C.Carrier.meaning carrier.new) }
     {
-        self.put_letter(logs, holds, carrier, docket_id)?;
-        self.record_docket_event(docket_id.seat, DocketEvent::Send);
+        self.put_letter(logs, holds, carrier, slip)?;
+        self.note_docket(slip.seat, DocketEvent::Send);
         Ok(())
     }
 
@@ -62,13 +63,13 @@ impl Room {
         logs: &[Letter<B>],
         holds: &[Letter<B>],
         carrier: &mut C,
-        docket_id: DocketId,
+        slip: Slip,
     ) -> Result<(), Refusal>
-        ensures answer { as_answer (λ u. u) result ≡ send_outcome C.Carrier self.now logs.now holds.now carrier.old docket_id }
-        ensures once { SendPuts C.Carrier self.now logs.now holds.now carrier.old docket_id carrier.new }
-        ensures carrier { SendLeaves C.Carrier self.now logs.now holds.now carrier.old docket_id carrier.new }
+        ensures answer { told (λ u. u) result ≡ send_answer (state self.now) logs.now (length holds.now) (C.Carrier.meaning carrier.old) slip }
+        ensures once { PutsOnce C.Carrier.puts C.Carrier.rests (send_letter (state self.now) logs.now (length holds.now) (C.Carrier.meaning carrier.old).seats slip) (send_answer (state self.now) logs.now (length holds.now) (C.Carrier.meaning carrier.old) slip) carrier.old carrier.new }
+        ensures carrier { PutOf (C.Carrier.meaning carrier.old) (send_letter (state self.now) logs.now (length holds.now) (C.Carrier.meaning carrier.old).seats slip) (send_answer (state self.now) logs.now (length holds.now) (C.Carrier.meaning carrier.old) slip) (C.Carrier.meaning carrier.new) }
     {
-        let letter = self.letter_to_send(logs, holds.len(), carrier.seats(), docket_id)?;
+        let letter = self.letter_to_send(logs, holds.len(), carrier.seats(), slip)?;
         carrier.put(letter)
     }
 
@@ -78,15 +79,15 @@ impl Room {
         logs: &'t [Letter<B>],
         holds: usize,
         seats: u8,
-        docket_id: DocketId,
+        slip: Slip,
     ) -> Result<&'t Letter<B>, Refusal>
-        ensures { as_answer (λ m. m.now) result ≡ send_letter (state self.now) logs.now holds seats docket_id }
+        ensures { told (λ m. m.now) result ≡ send_letter (state self.now) logs.now holds seats slip }
     {
-        self.check_carrier(logs.len(), holds, seats)?;
-        if !self.has_docket_out(docket_id) {
+        self.may_carry(logs.len(), holds, seats)?;
+        if !self.knows(slip) {
             return Err(Refusal::WrongDocket);
         }
-        let DocketId { seat, number, .. } = docket_id;
+        let Slip { seat, number, .. } = slip;
         let log = self.log_part(logs, seat, &self.seats[seat as usize]);
         let Some((_, letter)) = find_named(log, seat, number) else {
             return Err(Refusal::LetterMissing);
@@ -95,8 +96,8 @@ impl Room {
     }
 
     // Whether the tables suffice and the carrier serves as many seats as the room has.
-    pub(crate) fn check_carrier(&self, logs: usize, holds: usize, seats: u8) -> Result<(), Refusal>
-        ensures { as_answer (λ u. u) result ≡ carrier_check (state self.now) logs holds seats }
+    pub(crate) fn may_carry(&self, logs: usize, holds: usize, seats: u8) -> Result<(), Refusal>
+        ensures { told (λ u. u) result ≡ carrier_check (state self.now) logs holds seats }
     {
         if !self.terms.suffice(logs, holds) {
             return Err(Refusal::TooShort);

@@ -1,21 +1,22 @@
-ghost use Rattle.std.specs.Prelude.{◌≡◌, ◌<◌};
+// Taking.
+ghost use Rattle.std.specs.Prelude.{◌≡◌, ◌<◌, length};
 ghost use Rattle.std.specs.Result.{OnErr};
 ghost use Rattle.letters.specs.Letters.{letter_name};
-ghost use Rattle.letters.specs.Refusals.{as_answer};
+ghost use Rattle.letters.specs.Refusals.{told};
 ghost use Rattle.carriers.specs.Meaning.{draw_answer};
-ghost use Rattle.seats.specs.Outcomes.{kind_of_take, take_as_answer, take_holds, take_room};
+ghost use Rattle.seats.specs.Outcomes.{DrawRests, Take, carrier_check, take_check, taken_as, taken_holds, taken_room, taking};
 ghost use Rattle.rooms.specs.Calls.{Draws};
 ghost use Rattle.rooms.specs.States.{state};
-ghost use Rattle.rooms.specs.WithCarrier.{TakeMade, TakeRests};
 
 use crate::room::Room;
 use carriers::carrier::Carrier;
 use letters::body::Body;
 use letters::letter::Letter;
+use letters::parts::Parts;
 use letters::refusal::Refusal;
 use seats::finding::find_named;
 use seats::parts::put;
-use seats::take_outcome::TakeOutcome;
+use seats::taken::Taken;
 
 // Takes a letter off the carrier: a spare letter's parts are lent, and filled with those of the letter.
 fn draw_letter<B: Body, C: Carrier<Body = B>>(
@@ -24,13 +25,18 @@ fn draw_letter<B: Body, C: Carrier<Body = B>>(
     place: u32,
     spare: Letter<B>,
 ) -> Result<Letter<B>, Refusal>
-    ensures answer { as_answer (λ m. tt) result ≡ draw_answer (C.Carrier.meaning carrier.old) seat place }
+    ensures answer { told (λ m. tt) result ≡ draw_answer (C.Carrier.meaning carrier.old) seat place }
     ensures leaves { Draws result (C.Carrier.meaning carrier.old) seat place (C.Carrier.meaning carrier.new) }
     ensures rests { OnErr result (C.Carrier.rests carrier.old carrier.new) }
 {
     let mut parts = spare.parts();
     carrier.draw(seat, place, &mut parts)?;
-    Ok(Letter::make(parts))
+    let Parts {
+        stamp,
+        poster,
+        body,
+    } = parts;
+    Ok(Letter::make(stamp, poster, body))
 }
 
 impl Room {
@@ -43,28 +49,23 @@ impl Room {
         carrier: &mut C,
         seat: u8,
         place: u32,
-    ) -> Result<TakeOutcome, Refusal>
-        ensures take { TakeMade C.Carrier seat place self.old logs.now holds.old carrier.old (as_answer take_as_answer result) self.new holds.new carrier.new }
-        ensures rests { TakeRests C.Carrier seat place self.old logs.now holds.old carrier.old carrier.new }
+    ) -> Result<Taken, Refusal>
+        ensures take { Take (take_check (state self.old) (length logs.now) (length holds.old) (C.Carrier.meaning carrier.old) seat place) (state self.old) holds.old (C.Carrier.meaning carrier.old) seat place (told taken_as result) (state self.new) holds.new (C.Carrier.meaning carrier.new) }
+        ensures rests { DrawRests C.Carrier.rests (carrier_check (state self.old) (length logs.now) (length holds.old) (C.Carrier.meaning carrier.old).seats) (draw_answer (C.Carrier.meaning carrier.old) seat place) carrier.old carrier.new }
     {
-        self.check_carrier(logs.len(), holds.len(), carrier.seats())?;
+        self.may_carry(logs.len(), holds.len(), carrier.seats())?;
         let spare = holds[0];
         let letter = draw_letter(carrier, seat, place, spare)?;
-        Ok(self.hold_or_discard(holds, seat, &letter))
+        Ok(self.keep(holds, seat, &letter))
     }
 
     // Keeps a letter that is drawn for a seat, or throws it away: where it cannot be one for this seat or the hold has no
     // place for it, and where the seat has shown it or holds it.
-    fn hold_or_discard<B: Body>(
-        &mut self,
-        holds: &mut [Letter<B>],
-        seat: u8,
-        letter: &Letter<B>,
-    ) -> TakeOutcome
+    fn keep<B: Body>(&mut self, holds: &mut [Letter<B>], seat: u8, letter: &Letter<B>) -> Taken
         requires { seat < self.old.terms.count }
-        ensures answer { take_as_answer result ≡ (kind_of_take (state self.old) holds.old seat letter.now, letter_name letter.now) }
-        ensures room { state self.new ≡ take_room (state self.old) (kind_of_take (state self.old) holds.old seat letter.now) seat }
-        ensures hold { holds.new ≡ take_holds (state self.old) (kind_of_take (state self.old) holds.old seat letter.now) seat letter.now holds.old }
+        ensures answer { taken_as result ≡ (taking (state self.old) holds.old seat letter.now, letter_name letter.now) }
+        ensures room { state self.new ≡ taken_room (state self.old) (taking (state self.old) holds.old seat letter.now) seat }
+        ensures hold { holds.new ≡ taken_holds (state self.old) (taking (state self.old) holds.old seat letter.now) seat letter.now holds.old }
     {
         let mut taker = self.seats[seat as usize];
         let id = letter.id();
@@ -74,16 +75,16 @@ impl Room {
             || number > self.terms.quota
             || taker.held >= self.terms.places()
         {
-            return TakeOutcome::Stray(id);
+            return Taken::Stray(id);
         }
         if number <= taker.clock.entry(poster)
             || find_named(self.hold_part(holds, seat, &taker), poster, number).is_some()
         {
-            return TakeOutcome::Repeat(id);
+            return Taken::Repeat(id);
         }
         put(holds, self.start(seat) + taker.held as usize, *letter);
         let _ = taker.hold(self.terms.places());
-        self.store_seat(seat, taker);
-        TakeOutcome::Held(id)
+        self.tell(seat, taker);
+        Taken::Held(id)
     }
 }

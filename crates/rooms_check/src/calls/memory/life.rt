@@ -204,10 +204,10 @@ impl Life {
         requires good { good_in self.old.room (Some docket) ≡ true }
         requires two_seats { of_two_seats (Some docket) self.old.right ≡ true }
     {
-        let docket_id = docket.id();
+        let slip = docket.slip();
         let was = self.left.replace(docket);
         leave(&mut self.room, was);
-        AnswerLine::Docket(docket_id)
+        AnswerLine::Docket(slip)
     }
 
     // Takes a docket back that was refused.

@@ -14,8 +14,8 @@ use letters::parts::Parts;
 use letters::refusal::Refusal;
 use letters::stamp::Stamp;
 use letters::text::Text;
-use lives::operation::Operation;
-use lives::response::Response;
+use lives::moves::Move;
+use lives::reply::Reply;
 use pair::Pair;
 use records::fault::Fault;
 use records::file::{load, save};
@@ -23,13 +23,14 @@ use records::load_refusal::LoadRefusal;
 use records::reader::Reader;
 use records::record::read_record;
 use rooms::run;
-use seats::docket_id::DocketId;
+use seats::slip::Slip;
 use sheets::sheet::draw_up;
 use spool::Spool;
 use std::alloc::{AllocError, Global};
 
 pub mod scripts;
 
+// How many bytes the file has.
 const FILE_SIZE: usize = 4096;
 
 // Two rooms, and what can be brought to them.
@@ -76,7 +77,7 @@ impl<B: ScriptBody, C: Carrier<Body = B> + Drop, K: ScriptSheet<Body = B> + Drop
             parts: Parts {
                 stamp: Stamp { entries: [9; 16] },
                 poster: 9,
-                ..blank.parts()
+                body: *blank.body(),
             },
         })
     }
@@ -184,7 +185,7 @@ impl<B: ScriptBody, C: Carrier<Body = B> + Drop, K: ScriptSheet<Body = B> + Drop
     }
 }
 
-// The most steps, and the most responses, of a run that is checked.
+// The most steps, and the most replies, of a run that is checked.
 const MOST_STEPS: u16 = 8;
 
 // Makes a call at a room; a docket that it brings may be the other room's.
@@ -237,28 +238,25 @@ fn draw_up_at<B: ScriptBody, K: ScriptSheet<Body = B>>(
     }
 }
 
-// So many steps; which they are does not matter.
-fn some_steps<B: Copy>(
-    alloc: Global,
-    count: u16,
-) -> Result<Vec<Operation<B, DocketId>>, AllocError> {
+// So many steps; which they are does not count.
+fn some_steps<B: Copy>(alloc: Global, count: u16) -> Result<Vec<Move<B, Slip>>, AllocError> {
     let mut steps = Vec::new(alloc);
     for _ in 0..count.min(MOST_STEPS) {
-        steps.push(Operation::Show(0))?;
+        steps.push(Move::Show(0))?;
     }
     Ok(steps)
 }
 
-// Places for so many responses.
+// Places for so many replies.
 fn some_replies(
     alloc: Global,
     count: u16,
-) -> Result<Vec<Result<Response<DocketId>, Refusal>>, AllocError> {
-    let mut responses = Vec::new(alloc);
+) -> Result<Vec<Result<Reply<Slip>, Refusal>>, AllocError> {
+    let mut replies = Vec::new(alloc);
     for _ in 0..count.min(MOST_STEPS) {
-        responses.push(Err(Refusal::TooShort))?;
+        replies.push(Err(Refusal::TooShort))?;
     }
-    Ok(responses)
+    Ok(replies)
 }
 
 impl<B: ScriptBody, C: Carrier<Body = B> + Drop, K: ScriptSheet<Body = B> + Drop> Site<B, C, K> {
@@ -289,10 +287,10 @@ impl<B: ScriptBody, C: Carrier<Body = B> + Drop, K: ScriptSheet<Body = B> + Drop
         }
     }
 
-    // Asks whether the draft can be run by so many steps, with so many responses.
+    // Asks whether the draft can be run by so many steps, with so many replies.
     fn check_run(&self, call: &ScriptCall) -> Result<AnswerLine, AllocError> {
         let steps = some_steps::<B>(self.alloc, call.number)?;
-        let responses = some_replies(self.alloc, call.struck_number)?;
+        let replies = some_replies(self.alloc, call.struck_number)?;
         let Some(draft) = self.room(call).draft() else {
             return Ok(AnswerLine::Unfit);
         };
@@ -310,7 +308,7 @@ impl<B: ScriptBody, C: Carrier<Body = B> + Drop, K: ScriptSheet<Body = B> + Drop
             holds,
             carrier,
             steps.as_slice(),
-            responses.as_slice(),
+            replies.as_slice(),
         );
         Ok(AnswerLine::of(answer))
     }

@@ -9,9 +9,10 @@ use crate::calls::{CALL_SIZE, Make, SETTING_SIZE, ScriptBody, ScriptCall, Script
 use carriers::carrier::Carrier;
 use letters::job::Job;
 use letters::letter::Letter;
+use letters::stamp::Stamp;
 use letters::text::Text;
-use sheet_kinds::job_list::JobList;
-use sheet_kinds::timeline::Timeline;
+use sheets::job_list::JobList;
+use sheets::timeline::Timeline;
 use std::alloc::{AllocError, Global};
 use std::io;
 use std::io::Write;
@@ -89,7 +90,7 @@ fn run_over<B: ScriptBody, K: ScriptSheet<Body = B> + Drop>(
         alloc,
         setting,
         calls,
-        blank: Letter::blank(body),
+        blank: Letter::make(Stamp { entries: [1; 16] }, 0, body),
     };
     script.run(sheet, lines)
 }

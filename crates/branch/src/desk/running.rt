@@ -1,0 +1,56 @@
+// Making the steps that are read.
+ghost use Rattle.std.specs.Prelude.{IfOk, string_bytes};
+ghost use Rattle.branch.specs.Runs.{Ran, Tried};
+ghost use Rattle.branch.specs.Turns.{Turn};
+
+use crate::desk::Desk;
+use crate::line::{add_bad, add_step};
+use crate::step::{NoStep, Step};
+use carriers::carrier::Carrier;
+use letters::job::Job;
+use std::alloc::AllocError;
+
+// How many bytes a step has.
+const STEP: usize = 8;
+
+impl<C: Carrier<Body = Job>> Desk<'_, '_, C> {
+    // Makes the step that the bytes write and adds its line, or adds the line of what is no step.
+    fn try_step(
+        &mut self,
+        bytes: &[u8],
+        index: u64,
+        lines: &mut String,
+    ) -> Result<Result<(), NoStep>, AllocError>
+        ensures { IfOk result (λ tried. Tried (Turn C.Carrier.meaning C.Carrier.puts C.Carrier.rests) tried bytes.now index (string_bytes lines.old) self.old (string_bytes lines.new) self.new) }
+    {
+        match Step::try_from(bytes) {
+            Ok(step) => {
+                let outcome = self.make_step(step);
+                add_step(lines, index, step, outcome)?;
+                Ok(Ok(()))
+            }
+            Err(none) => {
+                add_bad(lines, index)?;
+                Ok(Err(none))
+            }
+        }
+    }
+
+    // Makes the steps that the bytes write, counted on from an index, and adds their lines, up to what is no step.
+    pub fn make_steps(
+        &mut self,
+        bytes: &[u8],
+        index: &mut u64,
+        lines: &mut String,
+    ) -> Result<Result<(), NoStep>, AllocError>
+        ensures { IfOk result (λ made. Ran (Turn C.Carrier.meaning C.Carrier.puts C.Carrier.rests) made bytes.now index.old (string_bytes lines.old) self.old index.new (string_bytes lines.new) self.new) }
+    {
+        for step in bytes.chunks(STEP) {
+            match self.try_step(step, *index, lines)? {
+                Ok(()) => *index = index.saturating_add(1),
+                Err(none) => return Ok(Err(none)),
+            }
+        }
+        Ok(Ok(()))
+    }
+}

@@ -1,0 +1,24 @@
+-- What may be said of a list of letters.
+use Rattle.std.specs.Prelude.{◌≡◌, List}
+use Rattle.letters.specs.declared.letter.Letter.{Letter}
+use Rattle.letters.specs.Letters.{letter_name}
+use Rattle.letters.specs.Names.{Name}
+use Rattle.letters.specs.Order.{SameLetter}
+use Rattle.letters.specs.Lists.{◌∈◌}
+use Rattle.letters.specs.Logs.{Once, Ordered}
+
+module _ {B : Type 0} where
+  -- the letter of this name stands in the list
+  pub record Stands (i : Name) (l : List (Letter B)) : Type 0 where
+    pub letter : Letter B
+    pub inside : letter ∈ l
+    pub called : letter_name letter ≡ i
+
+  -- what the sheets ask of two lists of letters: in neither a letter stands twice or covers a later one, and letters of
+  -- the two that have poster and number in common are equal in every part
+  pub record ForSheets (l l' : List (Letter B)) : Type 0 where
+    pub once : Once l
+    pub once' : Once l'
+    pub onward : Ordered l
+    pub onward' : Ordered l'
+    pub equal : (m k : Letter B) → m ∈ l → k ∈ l' → SameLetter m k → m ≡ k

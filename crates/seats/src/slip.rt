@@ -1,0 +1,10 @@
+// What a docket says.
+
+// The three numbers of a docket: the room's, the seat and the letter's. Plain data: a step that is told by numbers brings
+// them, and a room refuses those that no docket out has.
+#[derive(Clone, Copy, Default, PartialEq, Eq)]
+pub struct Slip {
+    pub room: u32,
+    pub seat: u8,
+    pub number: u16,
+}

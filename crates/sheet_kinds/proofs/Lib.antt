@@ -1,5 +1,0 @@
-pub mod Showing
-pub mod Jobs
-pub mod Closing
-pub mod Opening
-pub mod Codes

@@ -1,0 +1,21 @@
+-- Open jobs and their order, which is that of p.n: by poster, and by number among those of one poster.
+use Rattle.std.specs.Prelude.{ℕ, Bool, true, ◌&&◌, ◌||◌, List, [], ◌∷◌, ◌==◌, nat_lt}
+use Rattle.sheets.specs.declared.open_job.OpenJob.{OpenJob}
+
+-- the job is p.n
+abbrev pub job_is : OpenJob → ℕ → ℕ → Bool
+job_is r p n = r.poster == p && r.number == n
+
+-- a job stands after another in order of p.n
+abbrev pub job_after : OpenJob → OpenJob → Bool
+job_after r other = nat_lt other.poster r.poster || (r.poster == other.poster && nat_lt other.number r.number)
+
+-- each job of the list stands after r
+abbrev pub all_after : OpenJob → List OpenJob → Bool
+all_after r [] = true
+all_after r (s ∷ ss) = job_after s r && all_after r ss
+
+-- each job stands after those above it, so that no p.n stands twice
+abbrev pub rising : List OpenJob → Bool
+rising [] = true
+rising (r ∷ rs) = all_after r rs && rising rs
