@@ -5,13 +5,16 @@ usage: compare_branch.py PROGRAM
 
 PROGRAM is the built program `branch`. The model, tests/branch_model.py, follows docs/. Every stream's whole output is held to
 the model's, and at the end each outcome and each refusal that can come must have come often. Then the program is given
-arguments, and inputs and outputs that fail.
+arguments, of which it takes none, and inputs and outputs that fail.
 """
 
 import errno
+import os
 import random
 import struct
+import subprocess
 import sys
+import tempfile
 from concurrent.futures import ThreadPoolExecutor
 from pathlib import Path
 
@@ -19,7 +22,7 @@ sys.dont_write_bytecode = True
 sys.path.insert(0, str(Path(__file__).resolve().parent))
 import broken_streams as broken
 from branch_model import PLACES, QUOTA, SEATS, STEP, Branch
-from run_program import Program
+from run_program import PATIENCE, Program
 
 SEED = 20240923
 STREAMS = 5400
@@ -44,6 +47,24 @@ EXAMPLE_LINES = """0 post 0 sent 0.1
 log 0 0.1
 log 1 0.1 1.1
 log 2 0.1 1.1"""
+
+# What it says to any argument, and arguments.
+USAGE = b"usage: branch < STEPS (it takes no arguments)\n"
+ARGUMENTS = [
+    ["--help"],
+    ["job"],
+    [__file__],
+    [""],
+    [" "],
+    ["-"],
+    ["--"],
+    [b"\xff"],
+    ["\x1b[31m"],
+    ["x" * 100_000],
+    ["", ""],
+    ["1", "2", "3"],
+    ["0"] * 5000,
+]
 
 # What must come, and how often at least. Lines bring each letter once, to seats other than its poster's, so that no take
 # finds a repeat or a stray letter, and a send of the program's own dockets is refused by a full queue alone.
@@ -246,12 +267,31 @@ def failing_uses(name, data, program):
     yield f"{name}, and then an error", failed and lines[:steps].startswith(out)
 
 
+def is_wrong_use(program, arguments, data):
+    """Whether it says that it takes no arguments, and leaves the input where it is."""
+    with tempfile.TemporaryFile() as file:
+        file.write(data)
+        file.seek(0)
+        done = subprocess.run([program.path, *arguments], stdin=file, capture_output=True, timeout=PATIENCE)
+        return (done.returncode, done.stdout, done.stderr) == (1, b"", USAGE) and os.lseek(file.fileno(), 0, os.SEEK_CUR) == 0
+
+
+def called_by(program, words, data):
+    """What it answers to these words, of which the first is what it is told to be its own name."""
+    done = subprocess.run(words, executable=program.path, input=data, capture_output=True, timeout=PATIENCE)
+    return done.returncode, done.stdout, done.stderr
+
+
 def uses(program, rng):
     """What docs/PROGRAMS.md says of arguments and of inputs and outputs that fail: what was tried, and whether it was so."""
     empty, few, many = b"", example(), b"".join(rng.choice(THROUGH)(rng) for _ in range(3000))
-    for arguments in [["--help"], ["job"], [__file__], [""], ["1", "2", "3"]]:
-        status, out, _ = program.run(arguments, few)
-        yield f"arguments {arguments}", status == 0 and out == printed(few)[0]
+    for arguments in ARGUMENTS:
+        yield f"arguments {ascii(arguments)[:60]}", is_wrong_use(program, arguments, few)
+    status, out = broken.in_shell(program, ["job"], "2>&-", input=few, stdout=subprocess.PIPE)
+    yield "an argument, and a closed standard error", (status, out) == (1, b"")
+    yield "an argument, and a full device", broken.on_full_device(program, ["job"], few) == 1
+    for words in [[], [""], [b"\xff"], ["x" * 100_000], ["listing"]]:
+        yield f"called by the words {ascii(words)[:60]}", called_by(program, words, few) == (0, printed(few)[0], b"")
     for name, data in [("no steps", empty), ("some steps", few), ("many steps", many)]:
         lines = printed(data)[0]
         yield f"{name}, from a file", broken.from_file(program, [], data) == (0, lines)

@@ -111,7 +111,7 @@ def compare_failing(program, name, why, run, kind, *arguments):
 def compare_sample(program, name, kind):
     """The sample's records are those of its readable lines, and are listed right."""
     data = (TESTS / "samples" / f"{name}.letters").read_bytes()
-    lines = (TESTS / "samples" / f"{name}.txt").read_bytes().split(b"\n")
+    lines = (TESTS / "samples" / f"{name}.txt").read_text(encoding="ascii").split("\n")
     if records_of_lines(lines) != data:
         return f"{name}.letters is not what tools/letters.py makes of {name}.txt"
     return compare(program, kind, data)

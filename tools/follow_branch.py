@@ -12,6 +12,7 @@ from types import SimpleNamespace
 
 sys.path.insert(0, str(Path(__file__).resolve().parent.parent / "tests"))
 from branch_model import QUOTA, SEATS, STEP, WORDS, Branch, Letter, Refused, Room, named
+from shared import shown
 
 
 class Misfit(Exception):
@@ -169,8 +170,7 @@ NOTE = {
 
 def hold_to(index, expected, line):
     if line != expected:
-        got = ascii(line if len(line) <= 40 else line[:40] + "...")
-        raise Misfit(f"line {index + 1} is {got}; for these steps it would be '{expected}'")
+        raise Misfit(f"line {index + 1} is {shown(line)}; for these steps it would be '{expected}'")
 
 
 def next_line(lines, index):

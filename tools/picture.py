@@ -9,12 +9,12 @@ do not fit the steps, nothing is drawn, and the error names the line.
 
 import bisect
 import math
-import os
 import sys
 from xml.sax.saxutils import escape
 
 sys.dont_write_bytecode = True
 from follow_branch import SEATS, STEP, Misfit, follow, named
+from shared import fail, read_file, read_input, write_output
 
 USAGE = "usage: picture.py STEPS LINES > run.svg (one of the two may be -, the standard input)"
 
@@ -394,14 +394,6 @@ def picture(run):
 # Files.
 
 
-def read(name):
-    try:
-        with open(0 if name == "-" else name, "rb", closefd=name != "-") as file:
-            return file.read()
-    except OSError as error:
-        sys.exit(f"picture.py: {ascii(name)} cannot be read: {error.strerror}")
-
-
 def lines_of(data):
     try:
         lines = data.decode("ascii").split("\n")
@@ -410,24 +402,16 @@ def lines_of(data):
     return lines[:-1] if lines[-1] == "" else lines
 
 
-def write(data):
-    try:
-        while data:
-            data = data[os.write(1, data) :]
-    except OSError as error:
-        sys.exit(f"picture.py: the picture cannot be written: {error.strerror}")
-
-
 def main():
     names = sys.argv[1:]
     if len(names) != 2 or names == ["-", "-"]:
         sys.exit(USAGE)
-    steps, lines = (read(name) for name in names)
+    steps, lines = (read_input() if name == "-" else read_file(name) for name in names)
     try:
         drawn = picture(follow(steps, lines_of(lines)))
     except Misfit as error:
-        sys.exit(f"picture.py: {error}")
-    write(drawn.encode("ascii"))
+        fail(error)
+    write_output(drawn.encode("ascii"))
 
 
 if __name__ == "__main__":

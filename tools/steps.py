@@ -8,32 +8,26 @@
     take 1 0             seat 1 takes the letter at a place of its queue
     show 1               seat 1 shows the first letter that is ready
 
-Empty lines and lines that begin with # are passed over. A seat may be any number from 0 to 255: the room says no to one that
-it does not have. At a bad line nothing is written, and the error names the line.
+Lines of blanks and lines that begin with # are passed over. Blanks before, between and after the words do not count, nor how a
+line ends (LF or CR LF). A seat may be any number from 0 to 255: the room says no to one that it does not have. At a bad line
+nothing is written, and the error names the line.
 """
 
-import re
 import struct
 import sys
 
+sys.dont_write_bytecode = True
+from shared import BadLine, bytes_of_lines, number, shown, struck_name, turn_lines
 
-class BadLine(Exception):
-    pass
-
-
-def number(word, what, low, high):
-    if not (re.fullmatch(r"0|[1-9][0-9]{0,9}", word) and low <= int(word) <= high):
-        raise BadLine(f"{what} must be a number from {low} to {high}, not '{word}'")
-    return int(word)
+USAGE = "usage: steps.py < LINES > STEPS (it takes no arguments)"
 
 
 def add_of(word):
     return struct.pack("<BxI", 1, number(word, "a job's code", 0, 2**32 - 1))
 
 
-def strike_of(name):
-    poster, _, own_number = name.partition(".")
-    return struct.pack("<BBH", 2, number(poster, "a poster", 0, 15), number(own_number, "a struck letter's number", 1, 65535))
+def strike_of(word):
+    return struct.pack("<BBH", 2, *struck_name(word))
 
 
 JOBS = {"add": add_of, "strike": strike_of}
@@ -41,7 +35,7 @@ JOBS = {"add": add_of, "strike": strike_of}
 
 def post_of(kind, value):
     if kind not in JOBS:
-        raise BadLine("after a post's seat comes add or strike")
+        raise BadLine(f"after a post's seat comes add or strike, not {shown(kind)}")
     return JOBS[kind](value)
 
 
@@ -65,7 +59,7 @@ CALLS = {
 def step_of_line(line):
     call, *words = line.split()
     if call not in CALLS:
-        raise BadLine("a line begins with post, collect, take or show")
+        raise BadLine(f"a line begins with post, collect, take or show, not {shown(call)}")
     byte, form, count, values_of = CALLS[call]
     if len(words) != count + 1:
         raise BadLine(f"the form is: {form}")
@@ -74,26 +68,8 @@ def step_of_line(line):
 
 
 def steps_of_lines(lines):
-    steps = []
-    for count, line in enumerate(lines, 1):
-        if line.strip() and not line.startswith("#"):
-            try:
-                steps.append(step_of_line(line))
-            except BadLine as error:
-                raise BadLine(f"line {count}: {error}") from None
-    return b"".join(steps)
-
-
-def main():
-    if len(sys.argv) > 1:
-        sys.exit(__doc__)
-    text = sys.stdin.buffer.read().decode("utf-8", errors="replace")
-    try:
-        steps = steps_of_lines(text.split("\n"))
-    except BadLine as error:
-        sys.exit(str(error))
-    sys.stdout.buffer.write(steps)
+    return bytes_of_lines(lines, step_of_line)
 
 
 if __name__ == "__main__":
-    main()
+    turn_lines(USAGE, step_of_line)

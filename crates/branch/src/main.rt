@@ -1,7 +1,7 @@
 // A box to try: a job room of three seats on lines.
 #![tactic(auto)]
 
-ghost use Rattle.std.specs.Prelude.{◌≡◌, OnOk, []};
+ghost use Rattle.std.specs.Prelude.{◌≡◌, ◌↔◌, ◌<◌, ◌≤◌, Err, OnOk, []};
 ghost use Rattle.std.specs.Io.KnownBytes.{Appends};
 ghost use Rattle.carriers.specs.Lines.{lines_of};
 ghost use Rattle.lives.specs.Worked.{Worked};
@@ -9,8 +9,10 @@ ghost use Rattle.branch.specs.Desks.{JustOpened, all_log_lines, standing};
 ghost use Rattle.branch.specs.Keeping.{Finished};
 ghost use Rattle.branch.specs.Runs.{Printed};
 ghost use Rattle.branch.specs.Turns.{Turn};
+ghost use Rattle.branch.specs.declared.failure.Failure.TheVariants.{Usage};
 
 use crate::desk::Desk;
+use crate::failure::Failure;
 use crate::line::add_log;
 use carriers::carrier::Carrier;
 use carriers::lines::Lines;
@@ -22,10 +24,13 @@ use rooms::draft::Draft;
 use sheets::job_list::JobList;
 use sheets::sheet::Sheet;
 use std::alloc::Global;
+use std::env::{Env, FillError};
 use std::io;
 use std::io::{Read, Write};
+use std::process::ExitCode;
 
 mod desk;
+mod failure;
 mod line;
 mod outcome;
 mod reading;
@@ -117,6 +122,44 @@ fn run<K: Sheet<Body = Job>, R: Read, W: Write>(
     print_logs(alloc, output, &desk)
 }
 
-fn main(rt: HostRuntime) -> io::Result<()> {
-    run::<JobList, _, _>(rt.alloc(), &mut rt.stdin(), &mut io::writer(&rt))
+// The program as it was called, with so many words, of which the first is its name. It takes no arguments: where a second word
+// stands, nothing is read or written.
+fn run_without_arguments<K: Sheet<Body = Job>, R: Read, W: Write>(
+    alloc: Global,
+    words: usize,
+    input: &mut R,
+    output: &mut W,
+) -> Result<(), Failure>
+    ensures alone { words ≤ 1 → OnOk result (Finished K.Sheet.kind (R.remaining input.old) (W.contents output.old) (W.contents output.new)) }
+    ensures usage { (result ≡ Err Usage) ↔ 1 < words }
+    ensures untouched { 1 < words → (input.new ≡ input.old) × (output.new ≡ output.old) }
+{
+    if 1 < words {
+        return Err(Failure::Usage);
+    }
+    Ok(run::<K, _, _>(alloc, input, output)?)
+}
+
+// How many words the program was called with. They need not be text.
+fn count_words(rt: &HostRuntime) -> usize {
+    for index in 0..usize::MAX {
+        if let Err(FillError::NotPresent) = rt.arg(index, &mut []) {
+            return index;
+        }
+    }
+    usize::MAX
+}
+
+// A failure is told on the standard error, and ends the program with status 1.
+fn main(rt: HostRuntime) -> io::Result<ExitCode> {
+    let words = count_words(&rt);
+    let (input, output) = (&mut rt.stdin(), &mut io::writer(&rt));
+    match run_without_arguments::<JobList, _, _>(rt.alloc(), words, input, output) {
+        Ok(()) => Ok(ExitCode::SUCCESS),
+        Err(Failure::Usage) => {
+            let _ = eprintln!(rt; "usage: branch < STEPS (it takes no arguments)");
+            Ok(ExitCode::FAILURE)
+        }
+        Err(Failure::Io(why)) => Err(why),
+    }
 }
