@@ -12,7 +12,6 @@ use letters::body::Body;
 use letters::job::Job;
 use letters::letter::Letter;
 use letters::refusal::Refusal;
-use letters::stamp::Stamp;
 use letters::text::Text;
 use pair::Pair;
 use rooms::docket::{Docket, Returned};
@@ -294,11 +293,6 @@ fn run<B: Stored, K: Sheet<Body = B>>(
     }
 }
 
-// A letter to fill tables with.
-fn make_blank<B: Copy>(body: B) -> Letter<B> {
-    Letter::make(Stamp { entries: [1; 16] }, 0, body)
-}
-
 // The job that is posted at a place in the order of posts: each fourth of a seat strikes the one before it.
 fn make_job(at: u16) -> Result<Job, Refusal> {
     let turn = at / SEATS as u16;
@@ -345,7 +339,8 @@ fn run_jobs(rt: &HostRuntime, make: Make, parts: u8) -> Result<(), Stop> {
         *body = make_job(at)?;
     }
     let mut list = JobList::new();
-    let tally = run(rt, setting, make_blank(Job::Add(0)), &bodies, &mut list)?;
+    let blank = Letter::blank(Job::Add(0));
+    let tally = run(rt, setting, blank, &bodies, &mut list)?;
     print_tally(rt, tally)?;
     let mut sum = 0;
     for job in list.jobs() {
@@ -369,13 +364,8 @@ fn run_texts(rt: &HostRuntime, make: Make, parts: u8) -> Result<(), Stop> {
         *body = make_text(at)?;
     }
     let mut timeline = Timeline::new();
-    let tally = run(
-        rt,
-        setting,
-        make_blank(Text::default()),
-        &bodies,
-        &mut timeline,
-    )?;
+    let blank = Letter::blank(Text::default());
+    let tally = run(rt, setting, blank, &bodies, &mut timeline)?;
     print_tally(rt, tally)?;
     let mut sum = 0;
     for row in timeline.rows() {

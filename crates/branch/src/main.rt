@@ -19,7 +19,6 @@ use carriers::lines::Lines;
 use chunks::fill;
 use letters::job::Job;
 use letters::letter::Letter;
-use letters::stamp::Stamp;
 use rooms::draft::Draft;
 use sheets::job_list::JobList;
 use sheets::sheet::Sheet;
@@ -113,7 +112,7 @@ fn run<K: Sheet<Body = Job>, R: Read, W: Write>(
 ) -> io::Result<()>
     ensures { OnOk result (Finished K.Sheet.kind (R.remaining input.old) (W.contents output.old) (W.contents output.new)) }
 {
-    let blank = Letter::make(Stamp { entries: [1; 16] }, 0, Job::Add(0));
+    let blank = Letter::blank(Job::Add(0));
     let mut logs = [blank; 36];
     let mut holds = [blank; 36];
     let mut queues = [blank; 12];

@@ -2,7 +2,6 @@ pub mod Appended
 pub mod Closing
 pub mod Counts
 pub mod Decisions
-pub mod Drawing
 pub mod Gained
 pub mod Removed
 pub mod Rows

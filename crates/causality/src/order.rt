@@ -5,6 +5,7 @@ ghost use Rattle.causality.specs.Sample.{Arrives, first_parts, stamp_of_first};
 ghost use Rattle.causality.specs.Theorems.{CausalOrder, OrderForSheets, StampsMeanLedTo, TellsLedTo, stamps_say};
 
 use letters::letter::Letter;
+use letters::parts::Parts;
 use letters::stamp::Stamp;
 
 // Whether every log is in causal order, and every letter is the very one that was posted. They always are.
@@ -40,7 +41,11 @@ pub fn first_letter<B: Copy>(body: B) -> Letter<B>
     ensures parts { parts_of result ≡ first_parts body }
     ensures arrives { Arrives result }
 {
-    Letter::make(first_stamp(), 0, body)
+    Letter::make(Parts {
+        stamp: first_stamp(),
+        poster: 0,
+        body,
+    })
 }
 
 // The stamp of the first letter that seat 0 posts.

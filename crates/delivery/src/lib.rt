@@ -79,7 +79,6 @@ mod tests {
     use letters::job::Job;
     use letters::letter::Letter;
     use letters::parts::Parts;
-    use letters::stamp::Stamp;
     use letters::text::Text;
     use std::test::Fail;
 
@@ -91,15 +90,11 @@ mod tests {
         let Ok(blank) = Text::new(b"") else {
             return Err(Fail::new("no text was refused"));
         };
-        let stamp = Stamp { entries: [1; 16] };
-        let Ok(letter) = Letter::new(stamp, 0, text) else {
-            return Err(Fail::new("a letter was refused"));
-        };
+        let letter = Letter::blank(text);
         let mut places = [letter; 6];
         let mut parts = Parts {
-            stamp,
             poster: 9,
-            body: blank,
+            ..Letter::blank(blank).parts()
         };
         assert!(rt; over_lines(&mut places, 3, 2, &letter, 1, &mut parts).is_ok());
         assert_eq!(rt; parts.poster, 0);
@@ -109,15 +104,16 @@ mod tests {
 
     #[test]
     fn a_job_is_drawn(rt: HostRuntime) -> Result<(), Fail> {
-        let stamp = Stamp { entries: [1; 16] };
-        let Ok(letter) = Letter::new(stamp, 2, Job::Add(7)) else {
+        let Ok(letter) = Letter::new(Parts {
+            poster: 2,
+            ..Letter::blank(Job::Add(7)).parts()
+        }) else {
             return Err(Fail::new("a letter was refused"));
         };
         let mut places = [letter; 6];
         let mut parts = Parts {
-            stamp,
             poster: 9,
-            body: Job::Add(0),
+            ..Letter::blank(Job::Add(0)).parts()
         };
         let mut lines = Lines::new(&mut places, 3, 2);
         assert!(rt; put_and_draw(&mut lines, &letter, 1, &mut parts).is_ok());

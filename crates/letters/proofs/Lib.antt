@@ -1,2 +1,3 @@
 pub mod Bounded
 pub mod Readiness
+pub mod Passing

@@ -5,7 +5,7 @@ use Rattle.letters.specs.declared.job.Job.{Job}
 use Rattle.letters.specs.declared.job.Job.TheVariants.{Add, Strike}
 use Rattle.letters.specs.Checks.{check}
 use Rattle.letters.specs.Forms.{Form}
-use Rattle.letters.specs.Names.{Name, name, name_of}
+use Rattle.letters.specs.Names.{Name, is_name, name, name_of}
 use Rattle.letters.specs.Numbers.{bytes_of_16, bytes_of_32, number_16, number_32}
 use Rattle.letters.specs.Refusals.{Reason, unless}
 
@@ -33,14 +33,14 @@ abbrev pub job_starts : ℕ → ℕ → ℕ
 job_starts n place = cond (n == 4 && place == 3) 2 place
 
 -- the strike of p.n, and some job where there is no such letter
-unfoldable pub strike_or_none : (p n : ℕ) (can : Bool) → (nat_lt p 16 && nat_lt 0 n) ≡ can → Job
+unfoldable pub strike_or_none : (p n : ℕ) (can : Bool) → is_name p n ≡ can → Job
 strike_or_none p n true e =
     let both = and_parts (nat_lt p 16) (nat_lt 0 n) e in
     Strike (record { poster = p; number = n; seated = ltb-true p 16 both.0; counted = ltb-true 0 n both.1 })
 strike_or_none p n false e = Add 0
 
 unfoldable pub strike_of : ℕ → ℕ → Job
-strike_of p n = strike_or_none p n (nat_lt p 16 && nat_lt 0 n) refl
+strike_of p n = strike_or_none p n (is_name p n) refl
 
 -- the job with these bytes, and any job where there is none
 abbrev pub job_of : List ℕ → Job
@@ -68,6 +68,6 @@ abbrev pub said : Job → Said
 said (Add code) = adds code
 said (Strike id) = strikes (name_of id)
 
--- a strike is made of any seat below 16 and any number but 0
+-- a strike is made of any poster and number that a letter can be called by
 abbrev pub strike_answer : ℕ → ℕ → Result Said Reason
-strike_answer p n = unless (nat_lt p 16 && nat_lt 0 n) 20 (Ok (strikes (name p n)))
+strike_answer p n = unless (is_name p n) 20 (Ok (strikes (name p n)))

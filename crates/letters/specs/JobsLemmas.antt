@@ -8,13 +8,14 @@ use Rattle.letters.specs.declared.letter_id.LetterId.{LetterId}
 use Rattle.letters.specs.declared.body.TheConstants.{BODY_SPACE}
 use Rattle.letters.specs.Forms.{FirstWrong, Lawful, Near}
 use Rattle.letters.specs.Jobs.{add_wrong, job_bytes, job_form, job_of, job_starts, job_wrong, strike_of, strike_or_none, strike_wrong}
+use Rattle.letters.specs.Names.{is_name}
 use Rattle.letters.specs.Numbers.{bytes_of_16, bytes_of_32, number_16, number_32}
 use Rattle.letters.specs.ChecksLemmas.{failed, near_check, near_cond, passed, some_none}
 use Rattle.letters.specs.Listed.{listed}
 use Rattle.letters.specs.NumbersLemmas.{bytes_of_16_back, bytes_of_32_back, made_up_16, made_up_32}
 use Rattle.letters.specs.Same.{same_id}
 
-strike_made : (p n : ℕ) (can : Bool) (e : (nat_lt p 16 && nat_lt 0 n) ≡ can) → can ≡ true
+strike_made : (p n : ℕ) (can : Bool) (e : is_name p n ≡ can) → can ≡ true
     → (id : LetterId) → id.poster ≡ p → id.number ≡ n → strike_or_none p n can e ≡ Strike id
 unfolding strike_or_none
 strike_made p n true e f id q m = ap Strike (same_id _ id (sym q) (sym m))
@@ -26,7 +27,7 @@ strike_back id =
     let n : ℕ = id.number % 256 + id.number / 256 * 256 in
     let is : n ≡ id.number = made_up_16 id.number in
     let can = and_from (nat_lt id.poster 16) (nat_lt 0 n) (lt-ltb id.poster 16 id.seated) (lt-ltb 0 n (omega (arith, id.counted))) in
-    strike_made id.poster n (nat_lt id.poster 16 && nat_lt 0 n) refl can id refl (sym is)
+    strike_made id.poster n (is_name id.poster n) refl can id refl (sym is)
 
 job_back : (b : Job) → job_of (job_bytes b) ≡ b
 job_back (Add code) = ap Add (made_up_32 code)

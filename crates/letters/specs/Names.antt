@@ -1,5 +1,5 @@
 -- What letters are called.
-use Rattle.std.specs.Prelude.{ℕ, ◌&&◌, List, ◌++◌, Ok, Result, nat_lt, codes, decimal}
+use Rattle.std.specs.Prelude.{ℕ, Bool, ◌&&◌, List, ◌++◌, Ok, Result, nat_lt, codes, decimal}
 use Rattle.letters.specs.declared.letter_id.LetterId.{LetterId}
 use Rattle.letters.specs.Refusals.{Reason, unless}
 
@@ -18,6 +18,10 @@ name_of id = name id.poster id.number
 abbrev pub name_text : ℕ → ℕ → List ℕ
 name_text p n = decimal p ++ (codes "." ++ decimal n)
 
--- a name is made of any seat below 16 and any number but 0
+-- some letter can be called p.n: p is a seat, below 16, and n is not 0
+abbrev pub is_name : ℕ → ℕ → Bool
+is_name p n = nat_lt p 16 && nat_lt 0 n
+
+-- a name is made of any poster and number that a letter can be called by
 abbrev pub name_answer : ℕ → ℕ → Result Name Reason
-name_answer p n = unless (nat_lt p 16 && nat_lt 0 n) 20 (Ok (name p n))
+name_answer p n = unless (is_name p n) 20 (Ok (name p n))

@@ -16,8 +16,8 @@ use crate::stepping::add_next;
 use chunks::fill;
 use letters::body::Body;
 use letters::job::Job;
+use letters::letter::Letter;
 use letters::parts::Parts;
-use letters::stamp::Stamp;
 use letters::text::Text;
 use records::fault::Fault;
 use records::reader::Reader;
@@ -69,11 +69,7 @@ fn list<B: Say, R: Read, W: Write>(
     let mut held = [0; CHUNK];
     let mut lines = String::new(alloc);
     let mut letters = 0;
-    let mut parts = Parts {
-        stamp: Stamp { entries: [0; 16] },
-        poster: 0,
-        body,
-    };
+    let mut parts = Letter::blank(body).parts();
     // The bound is there only because every loop has to end.
     for _ in 0..u64::MAX {
         lines.clear();

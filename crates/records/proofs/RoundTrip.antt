@@ -1,15 +1,16 @@
 -- A letter's record is right, and writes that letter's parts and no others.
-use Rattle.std.proofs.Common.{◌≡◌, ℕ, ◌+◌, ◌-◌, ◌*◌, ◌<◌, ◌≤◌, true, false, ltb, leb, List, length, get_or, take, Some, None, Ok, Err, Option, Result, sym, refl, ap, ◌∙◌, subst, arith}
+use Rattle.std.proofs.Common.{◌≡◌, ℕ, ◌+◌, ◌-◌, ◌*◌, ◌<◌, ◌≤◌, true, false, leb, List, length, get_or, take, Some, None, Ok, Err, Option, Result, sym, refl, ap, ◌∙◌, subst, arith}
 use Rattle.std.proofs.lemmas.List.{length-take-le}
-use Rattle.std.proofs.lemmas.Bool.{le-leb, lt-leb, lt-ltb, leb-true}
+use Rattle.std.proofs.lemmas.Bool.{le-leb, lt-leb, leb-true}
 use Rattle.letters.specs.declared.letter.Letter.{Letter}
 use Rattle.letters.specs.Checks.{first_failing}
 use Rattle.letters.specs.declared.body.TheConstants.{BODY_SPACE}
 use Rattle.letters.specs.Forms.{Form, Lawful}
 use Rattle.letters.specs.declared.parts.Parts.{Parts}
-use Rattle.letters.specs.Letters.{parts, parts_of, entry_at, letter_check}
+use Rattle.letters.specs.Letters.{parts, parts_of, letter_check}
 use Rattle.letters.specs.Numbers.{number_16}
 use Rattle.letters.specs.ChecksLemmas.{passed, some_none}
+use Rattle.letters.proofs.Passing.{letter_passes}
 use Rattle.records.specs.declared.record.TheConstants.{RECORD_SIZE}
 use Rattle.records.specs.Records.{body_part, first_of, is_zero, kind_byte, length_byte, padding, parts_record, parts_written, poster_byte, record_of, stamp_bytes, stamp_of, wrong_byte, wrong_front, wrong_header}
 use Rattle.records.specs.declared.fault.Fault.{Fault}
@@ -103,14 +104,10 @@ module _ {B : Type 0} (form : Form B) (laws : Lawful form) where
 
   -- and can be made one
   pub made-check : (p : Parts B) (bs : List ℕ) → length bs ≡ RECORD_SIZE → wrong_byte form bs ≡ None → parts_record form p ≡ bs
-      → letter_check p.stamp p.poster ≡ Ok tt
+      → letter_check p ≡ Ok tt
   made-check p bs size right e =
       let made = made_letter p bs size right e in
-      let m : Letter B = made.0 in
-      let same : letter_check p.stamp p.poster ≡ letter_check m.stamp m.poster = ap (λ q. letter_check q.stamp q.poster) made.1 in
-      let a : ltb m.poster 16 ≡ true = lt-ltb m.poster 16 m.seated in
-      let b : ltb 0 (entry_at m.stamp m.poster) ≡ true = lt-ltb 0 (entry_at m.stamp m.poster) m.counted in
-      same ∙ rw (a, b)
+      ap letter_check made.1 ∙ letter_passes made.0
 
   -- of 96 bytes and more, the first wrong byte is that of the record in front
   pub front_whole : (bs : List ℕ) → RECORD_SIZE ≤ length bs → wrong_front form bs ≡ wrong_byte form (take RECORD_SIZE bs)

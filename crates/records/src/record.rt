@@ -4,7 +4,7 @@ ghost use Rattle.std.specs.List.{position};
 ghost use Rattle.letters.specs.Checks.{first_failing};
 ghost use Rattle.records.specs.Faults.{told_fault};
 ghost use Rattle.records.specs.Reading.{LeftBy, RecordRead, read_answer};
-ghost use Rattle.records.specs.Records.{body_part, is_zero, kind_byte, record_of, wrong_byte, wrong_front, wrong_header};
+ghost use Rattle.records.specs.Records.{body_part, is_zero, kind_byte, parts_record, record_of, wrong_byte, wrong_front, wrong_header};
 
 use crate::bytes::{number_at, put};
 use crate::fault::Fault;
@@ -72,12 +72,20 @@ fn read_whole<B: Body>(bytes: &[u8; RECORD_SIZE], parts: &mut Parts<B>) -> Resul
     if let Some(byte) = wrong_byte::<B>(bytes) {
         return Err(Fault { index: 0, byte });
     }
-    *parts = Parts {
+    *parts = read_parts(bytes);
+    Ok(())
+}
+
+// The parts that a record in which nothing is wrong writes.
+fn read_parts<B: Body>(bytes: &[u8; RECORD_SIZE]) -> Parts<B>
+    requires { wrong_byte B.form bytes.now ≡ None }
+    ensures { parts_record B.form result ≡ bytes.now }
+{
+    Parts {
         stamp: read_stamp(bytes),
         poster: bytes[POSTER_PLACE],
         body: read_body(bytes),
-    };
-    Ok(())
+    }
 }
 
 // The body of a record in which nothing is wrong.
@@ -95,7 +103,7 @@ pub(crate) fn read_letter<B: Body>(bytes: &[u8; RECORD_SIZE]) -> Letter<B>
     requires { wrong_byte B.form bytes.now ≡ None }
     ensures { record_of B.form result ≡ bytes.now }
 {
-    Letter::make(read_stamp(bytes), bytes[POSTER_PLACE], read_body(bytes))
+    Letter::make(read_parts(bytes))
 }
 
 // The first wrong byte of the record at the front; where the bytes are too few for one, how many there are.

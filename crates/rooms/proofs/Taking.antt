@@ -1,20 +1,16 @@
 -- What an accepted take draws, and what it leaves.
 use Rattle.std.proofs.Common.{◌≡◌, ℕ, ◌<◌, List, map, length, get_or, Ok, Result, ap, ◌∙◌, subst, arith}
 use Rattle.std.proofs.lemmas.List.{get_or-map}
-use Rattle.std.proofs.lemmas.Bool.{and_from, lt-ltb}
 use Rattle.std.proofs.lemmas.Bool.Decides.{nat_tests}
 use Rattle.letters.specs.declared.letter.Letter.{Letter}
 use Rattle.letters.specs.declared.parts.Parts.{Parts}
 use Rattle.letters.specs.Letters.{letter_check, parts_of}
 use Rattle.letters.specs.Names.{Name}
-use Rattle.letters.specs.Refusals.{Reason, unless}
+use Rattle.letters.specs.Refusals.{Reason}
+use Rattle.letters.proofs.Passing.{letter_passes}
 use Rattle.carriers.specs.Meaning.{Meaning, draw_answer}
 use Rattle.seats.specs.Outcomes.{Take, Takes, Taking, carrier_check, follows, take_check}
 use Rattle.seats.specs.Rooms.{RoomState}
-
--- the parts of a letter can be a letter's
-can_be : {B : Type 0} (m : Letter B) → letter_check m.stamp m.poster ≡ Ok tt
-can_be m = ap (λ b. unless b 20 (Ok tt)) (and_from _ _ (lt-ltb _ _ m.seated) (lt-ltb _ _ m.counted))
 
 -- a letter that is drawn by its parts
 module _ {B : Type 0} (c : Meaning (Letter B)) (s place : ℕ) (spare : Letter B) (lent p : Parts B)
@@ -25,8 +21,8 @@ module _ {B : Type 0} (c : Meaning (Letter B)) (s place : ℕ) (spare : Letter B
   drawn_parts : p ≡ parts_of (get_or (c.waiting s) place spare)
   drawn_parts = filled ∙ get_or-map parts_of (c.waiting s) place spare lent there
 
-  pub drawn_can_be : letter_check p.stamp p.poster ≡ Ok tt
-  drawn_can_be = ap (λ q. letter_check q.stamp q.poster) drawn_parts ∙ can_be (get_or (c.waiting s) place spare)
+  pub drawn_can_be : letter_check p ≡ Ok tt
+  drawn_can_be = ap letter_check drawn_parts ∙ letter_passes (get_or (c.waiting s) place spare)
 
 -- an accepted take, put together
 pub took : {B : Type 0} (st : RoomState) (logs : ℕ) (holds : List (Letter B)) (c : Meaning (Letter B)) (s place : ℕ) (r : Result (Taking × Name) Reason) (st' : RoomState) (holds' : List (Letter B)) (c' : Meaning (Letter B))

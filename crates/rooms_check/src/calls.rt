@@ -5,6 +5,7 @@ ghost use Rattle.std.specs.Prelude.{◌+◌, ◌<◌, length};
 use letters::job::Job;
 use letters::letter::Letter;
 use letters::letter_id::LetterId;
+use letters::parts::Parts;
 use letters::refusal::Refusal;
 use letters::stamp::Stamp;
 use letters::text::Text;
@@ -275,7 +276,11 @@ impl ScriptCall {
     // The letter that it brings, or why there is none.
     fn letter<B: ScriptBody>(&self) -> Result<Letter<B>, Refusal> {
         let body = B::brought(self)?;
-        Letter::new(self.stamp, self.poster, body)
+        Letter::new(Parts {
+            stamp: self.stamp,
+            poster: self.poster,
+            body,
+        })
     }
 }
 

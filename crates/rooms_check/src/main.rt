@@ -9,7 +9,6 @@ use letters::body::Body;
 use letters::job::Job;
 use letters::letter::Letter;
 use letters::refusal::Refusal;
-use letters::stamp::Stamp;
 use lives::moves::Move;
 use lives::reply::Reply;
 use pair::Pair;
@@ -246,7 +245,7 @@ fn enrol_all(draft: &mut Draft, seats: u8) -> Result<(), Refusal> {
 }
 
 fn live(rt: &HostRuntime, setting: Setting, steps: &[u8]) -> Result<(), Stop> {
-    let blank = Letter::make(Stamp { entries: [1; 16] }, 0, Job::Add(0));
+    let blank = Letter::blank(Job::Add(0));
     let mut queues = [blank; QUEUES];
     let mut bytes = [0; BYTES];
     Draft::check(setting.quota)?;

@@ -8,6 +8,7 @@
 use letters::body::Body;
 use letters::job::Job;
 use letters::letter::Letter;
+use letters::parts::Parts;
 use letters::refusal::Refusal;
 use letters::stamp::Stamp;
 use letters::text::Text;
@@ -56,7 +57,11 @@ fn job_said(block: &[u8; BLOCK]) -> Result<Job, Refusal> {
 // The letter of a block, with the body that it says.
 fn letter_of<B: Body>(block: &[u8; BLOCK], body: Result<B, Refusal>) -> Result<Letter<B>, Refusal> {
     let entries = array::from_fn(|seat| u16::from_le_bytes([block[2 * seat], block[2 * seat + 1]]));
-    Letter::new(Stamp { entries }, block[32], body?)
+    Letter::new(Parts {
+        stamp: Stamp { entries },
+        poster: block[32],
+        body: body?,
+    })
 }
 
 // Enters letters one by one; the answer is that of the last.

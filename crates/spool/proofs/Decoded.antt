@@ -1,13 +1,14 @@
 -- The letter that bytes stand for: that of which they are the record.
 use Rattle.std.proofs.Common.{◌≡◌, ℕ, Bool, true, false, List, length, take, Some, None, Err, Option, sym, refl, ap, ◌∙◌, arith}
 use Rattle.std.proofs.lemmas.List.{take_all}
-use Rattle.std.proofs.lemmas.Bool.{and_from, both_ways, eq-eqb, lt-ltb}
+use Rattle.std.proofs.lemmas.Bool.{and_from, both_ways, eq-eqb}
 use Rattle.letters.specs.declared.letter.Letter.{Letter}
 use Rattle.letters.specs.Forms.{Form, Lawful}
 use Rattle.letters.specs.declared.parts.Parts.{Parts}
-use Rattle.letters.specs.Letters.{parts_of}
+use Rattle.letters.specs.Letters.{blank_letter, parts_of}
 use Rattle.letters.specs.ChecksLemmas.{some_none}
 use Rattle.letters.specs.Same.{same_letter}
+use Rattle.letters.proofs.Passing.{letter_is}
 use Rattle.records.specs.declared.fault.Fault.{Fault}
 use Rattle.records.specs.Faults.{fault_reason}
 use Rattle.records.specs.Reading.{Undoes, read_answer}
@@ -15,12 +16,12 @@ use Rattle.records.specs.declared.record.TheConstants.{RECORD_SIZE}
 use Rattle.records.specs.Records.{record_of, wrong_byte, wrong_front}
 use Rattle.records.proofs.Finding.{answered_wrong}
 use Rattle.records.proofs.RoundTrip.{front_whole, record_right, written_back}
-use Rattle.spool.specs.Decoding.{blank_letter, letter_of, letter_or, letter_parts, letter_read}
+use Rattle.spool.specs.Decoding.{letter_of, letter_or, letter_parts, letter_read}
 
 module _ {B : Type 0} (blank : B) where
   -- a letter's parts are one's
   can_be : (m : Letter B) → letter_parts (parts_of m) ≡ true
-  can_be m = and_from _ _ (eq-eqb _ _ m.sized) (and_from _ _ (lt-ltb _ _ m.seated) (lt-ltb _ _ m.counted))
+  can_be m = and_from _ _ (eq-eqb _ _ m.sized) (letter_is m)
 
   or_is : (m : Letter B) (p : Parts B) (can : Bool) (e : letter_parts p ≡ can) → p ≡ parts_of m → letter_or blank p can e ≡ m
   unfolding letter_or

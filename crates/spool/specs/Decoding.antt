@@ -1,32 +1,21 @@
 -- The letter that any bytes stand for, so that each row has one: some fixed letter where they are no record.
-use Rattle.std.specs.Prelude.{◌≡◌, ℕ, Bool, true, false, ◌&&◌, List, length, replicate, Some, None, Option, ◌==◌, nat_lt, refl}
+use Rattle.std.specs.Prelude.{◌≡◌, ℕ, Bool, true, false, ◌&&◌, List, length, Some, None, Option, ◌==◌, nat_lt, refl}
 use Rattle.std.proofs.lemmas.Bool.{and_parts, eqb-true, ltb-true}
 use Rattle.letters.specs.declared.letter.Letter.{Letter}
 use Rattle.letters.specs.Forms.{Form}
 use Rattle.letters.specs.declared.parts.Parts.{Parts}
-use Rattle.letters.specs.Letters.{entry_at}
+use Rattle.letters.specs.Letters.{blank_letter, entry_at, is_letter}
 use Rattle.records.specs.Records.{parts_written, wrong_byte}
 
 module _ {B : Type 0} where
   -- whether some letter has these parts
   abbrev pub letter_parts : Parts B → Bool
-  letter_parts p = length p.stamp.entries == 16 && (nat_lt p.poster 16 && nat_lt 0 (entry_at p.stamp p.poster))
-
-  -- letter 0.1, stamped 1 throughout, with a body
-  abbrev pub blank_letter : B → Letter B
-  blank_letter body = record {
-    stamp = record { entries = replicate 16 1 };
-    poster = 0;
-    body = body;
-    sized = refl;
-    seated = ltb-true 0 16 refl;
-    counted = ltb-true 0 1 refl;
-  }
+  letter_parts p = length p.stamp.entries == 16 && is_letter p
 
   -- the letter with these parts, and the blank one where there is none
   unfoldable pub letter_or : B → (p : Parts B) (can : Bool) → letter_parts p ≡ can → Letter B
   letter_or blank p true e =
-      let both = and_parts (length p.stamp.entries == 16) (nat_lt p.poster 16 && nat_lt 0 (entry_at p.stamp p.poster)) e in
+      let both = and_parts (length p.stamp.entries == 16) (is_letter p) e in
       let rest = and_parts (nat_lt p.poster 16) (nat_lt 0 (entry_at p.stamp p.poster)) both.1 in
       record {
         stamp = p.stamp;

@@ -2,19 +2,18 @@
 ghost use Rattle.std.specs.Prelude.{◌≡◌, ℕ, ◌+◌, ◌*◌, ◌<◌, ◌≤◌, length};
 ghost use Rattle.std.specs.Simd.{first_chunks};
 ghost use Rattle.std.specs.List.{copy_within};
-ghost use Rattle.letters.specs.Letters.{parts_of};
+ghost use Rattle.letters.specs.Letters.{blank_letter, parts_of};
 ghost use Rattle.letters.specs.Numbers.{bytes_of_16};
 ghost use Rattle.carriers.specs.Places.{OnlyAt};
 ghost use Rattle.records.specs.Buffers.{overlaid};
 ghost use Rattle.records.specs.Records.{record_of};
-ghost use Rattle.spool.specs.Decoding.{blank_letter, letter_of};
+ghost use Rattle.spool.specs.Decoding.{letter_of};
 ghost use Rattle.spool.specs.Rows.{mask_of, record_part, row_at};
 
 use crate::stored::Stored;
 use letters::body::Body;
 use letters::letter::Letter;
 use letters::parts::Parts;
-use letters::stamp::Stamp;
 use records::record::{RECORD_SIZE, read_record, to_record};
 
 // How many bytes a row has: a record and a mask.
@@ -110,17 +109,6 @@ fn read_letter<B: Stored>(bytes: &[u8], parts: &mut Parts<B>)
 {
     match read_record(bytes, parts) {
         Ok(()) => {}
-        Err(_) => *parts = blank_parts(),
-    }
-}
-
-// The parts of the letter that bytes stand for which are no record.
-fn blank_parts<B: Stored>() -> Parts<B>
-    ensures { result ≡ parts_of (blank_letter B.blank) }
-{
-    Parts {
-        stamp: Stamp { entries: [1; 16] },
-        poster: 0,
-        body: B::make_blank(),
+        Err(_) => *parts = Letter::blank(B::make_blank()).parts(),
     }
 }

@@ -115,7 +115,11 @@ impl Setting {
 // A letter whose stamp counts up from its number, seat by seat.
 fn make_letter(poster: u8, number: u16, code: u32) -> Result<Letter<Job>, Refusal> {
     let entries = array::from_fn(|seat| number.wrapping_add(seat as u16));
-    Letter::new(Stamp { entries }, poster, Job::Add(code))
+    Letter::new(Parts {
+        stamp: Stamp { entries },
+        poster,
+        body: Job::Add(code),
+    })
 }
 
 // It is no `Display`: a `Result` is of the library, and these words are this program's.
@@ -201,8 +205,7 @@ impl Trial<'_> {
     fn take_steps<C: Carrier<Body = Job>>(&self, carrier: &mut C) -> io::Result<()> {
         let mut parts = Parts {
             stamp: Stamp { entries: [0; 16] },
-            poster: 0,
-            body: Job::Add(0),
+            ..Letter::blank(Job::Add(0)).parts()
         };
         for bytes in self.steps.chunks_exact(8) {
             take_step(self.rt, carrier, &mut parts, Step::from(bytes))?;
@@ -277,15 +280,15 @@ impl Trial<'_> {
 fn main(rt: HostRuntime) -> io::Result<()> {
     let mut input = Vec::new(rt.alloc());
     let _count = rt.stdin().read_to_end(&mut input)?;
-    match (input.as_slice().split_first_chunk(), make_letter(0, 1, 0)) {
-        (Some((head, steps)), Ok(blank)) => {
+    match input.as_slice().split_first_chunk() {
+        Some((head, steps)) => {
             let trial = Trial {
                 rt: &rt,
                 setting: Setting::from(head),
                 steps,
             };
-            trial.on_all(blank)
+            trial.on_all(Letter::blank(Job::Add(0)))
         }
-        _ => Err(io::Error::from(io::ErrorKind::InvalidInput)),
+        None => Err(io::Error::from(io::ErrorKind::InvalidInput)),
     }
 }

@@ -1,6 +1,6 @@
 // Making letters, and reading their parts.
 ghost use Rattle.std.specs.Prelude.{◌≡◌, sum, Ok};
-ghost use Rattle.letters.specs.Letters.{entry_at, letter_answer, letter_check, letter_name, number_of, parts, parts_of};
+ghost use Rattle.letters.specs.Letters.{blank_letter, entry_at, letter_answer, letter_check, letter_name, number_of, parts_of};
 ghost use Rattle.letters.specs.Names.{name_of};
 ghost use Rattle.letters.specs.Refusals.{told};
 
@@ -27,37 +27,38 @@ impl Stamp {
     {
         self.entries.iter().map(|entry| u32::from(*entry)).sum()
     }
-
-    // Whether a letter of this poster can have the stamp; 20 where the poster is no seat or its entry is 0.
-    pub fn check_poster(&self, poster: u8) -> Result<(), Refusal>
-        ensures { told (λ u. u) result ≡ letter_check self.now poster }
-    {
-        if poster >= 16 || self.entries[poster as usize] == 0 {
-            return Err(Refusal::BadRecord);
-        }
-        Ok(())
-    }
 }
 
 impl<B: Copy> Letter<B> {
     // The letter of parts that were checked, as a post makes it.
-    pub fn make(stamp: Stamp, poster: u8, body: B) -> Letter<B>
-        requires { letter_check stamp poster ≡ Ok tt }
-        ensures { parts_of result ≡ parts stamp poster body }
+    pub fn make(parts: Parts<B>) -> Letter<B>
+        requires { letter_check parts ≡ Ok tt }
+        ensures { parts_of result ≡ parts }
     {
         Letter {
-            stamp,
-            poster,
-            body,
+            stamp: parts.stamp,
+            poster: parts.poster,
+            body: parts.body,
         }
     }
 
     // The letter of any parts; those that no letter can have are refused with 20.
-    pub fn new(stamp: Stamp, poster: u8, body: B) -> Result<Letter<B>, Refusal>
-        ensures { told parts_of result ≡ letter_answer stamp poster body }
+    pub fn new(parts: Parts<B>) -> Result<Letter<B>, Refusal>
+        ensures { told parts_of result ≡ letter_answer parts }
     {
-        stamp.check_poster(poster)?;
-        Ok(Letter::make(stamp, poster, body))
+        parts.check()?;
+        Ok(Letter::make(parts))
+    }
+
+    // The plainest letter that carries this body: 0.1, stamped 1 throughout. It fills tables and lends its parts.
+    pub fn blank(body: B) -> Letter<B>
+        ensures { parts_of result ≡ parts_of (blank_letter body) }
+    {
+        Letter::make(Parts {
+            stamp: Stamp { entries: [1; 16] },
+            poster: 0,
+            body,
+        })
     }
 
     // Its parts.

@@ -9,6 +9,7 @@ use crate::docket::Docket;
 use crate::room::Room;
 use letters::body::Body;
 use letters::letter::Letter;
+use letters::parts::Parts;
 use letters::refusal::Refusal;
 use seats::parts::put;
 use seats::seat::DocketEvent;
@@ -53,7 +54,12 @@ impl Room {
         if !poster.raise(seat, self.terms.quota) {
             return Err(Refusal::QuotaSpent);
         }
-        put(logs, foot, Letter::make(poster.clock, seat, body));
+        let parts = Parts {
+            stamp: poster.clock,
+            poster: seat,
+            body,
+        };
+        put(logs, foot, Letter::make(parts));
         self.tell(seat, poster);
         Ok(self.newest(seat, &poster))
     }

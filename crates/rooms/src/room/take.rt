@@ -12,7 +12,6 @@ use crate::room::Room;
 use carriers::carrier::Carrier;
 use letters::body::Body;
 use letters::letter::Letter;
-use letters::parts::Parts;
 use letters::refusal::Refusal;
 use seats::finding::find_named;
 use seats::parts::put;
@@ -31,12 +30,7 @@ fn draw_letter<B: Body, C: Carrier<Body = B>>(
 {
     let mut parts = spare.parts();
     carrier.draw(seat, place, &mut parts)?;
-    let Parts {
-        stamp,
-        poster,
-        body,
-    } = parts;
-    Ok(Letter::make(stamp, poster, body))
+    Ok(Letter::make(parts))
 }
 
 impl Room {

@@ -1,5 +1,5 @@
 use Rattle.std.proofs.Common.{sym, ap, ◌∙◌}
-use Rattle.letters.specs.Letters.{parts_of}
+use Rattle.letters.specs.Letters.{blank_letter, parts_of}
 use Rattle.spool.proofs.Decoded.{letter_read_right, letter_read_wrong}
 use Rattle.spool.proofs.tape.read_letter.Goals as goal
 
@@ -9,5 +9,5 @@ returns-in-Ok g c =
 
 pub returns-in-Err : goal.returns-in-Err
 returns-in-Err g c =
-    c.blank_parts.ensures
+    c.parts.ensures ∙ c.blank.ensures ∙ ap (λ body. parts_of (blank_letter body)) c.make_blank.ensures
     ∙ sym (ap parts_of (letter_read_wrong g.B.Stored.blank g.B.Body.form g.met.B.Body.lawful c.args.bytes.now c.requires c.in-Err.field-0 c.in-Err.ensures.answer))

@@ -77,7 +77,7 @@ impl<B: ScriptBody, C: Carrier<Body = B> + Drop, K: ScriptSheet<Body = B> + Drop
             parts: Parts {
                 stamp: Stamp { entries: [9; 16] },
                 poster: 9,
-                body: *blank.body(),
+                ..blank.parts()
             },
         })
     }

@@ -9,7 +9,6 @@ use crate::calls::{CALL_SIZE, Make, SETTING_SIZE, ScriptBody, ScriptCall, Script
 use carriers::carrier::Carrier;
 use letters::job::Job;
 use letters::letter::Letter;
-use letters::stamp::Stamp;
 use letters::text::Text;
 use sheets::job_list::JobList;
 use sheets::timeline::Timeline;
@@ -90,7 +89,7 @@ fn run_over<B: ScriptBody, K: ScriptSheet<Body = B> + Drop>(
         alloc,
         setting,
         calls,
-        blank: Letter::make(Stamp { entries: [1; 16] }, 0, body),
+        blank: Letter::blank(body),
     };
     script.run(sheet, lines)
 }
