@@ -12,7 +12,7 @@ use letters::body::Body;
 use letters::job::Job;
 use letters::letter::Letter;
 use letters::refusal::Refusal;
-use letters::text::Text;
+use letters::text::{LONGEST_TEXT, Text};
 use pair::Pair;
 use rooms::docket::{Docket, Returned};
 use rooms::draft::Draft;
@@ -22,7 +22,7 @@ use sheets::job_list::JobList;
 use sheets::sheet::Sheet;
 use sheets::timeline::Timeline;
 use spool::Spool;
-use spool::stored::Stored;
+use spool::tape::ROW_SIZE;
 use std::alloc::AllocError;
 use std::io;
 use std::io::Read;
@@ -30,10 +30,23 @@ use std::mem::size_of;
 
 const SEATS: usize = 16;
 
-// How many bytes a spool has for a letter.
-const ROW_SIZE: usize = 98;
+// How many letters a seat may post, in a room with jobs and in one with texts.
+const JOB_QUOTA: u16 = 8;
 
-const SAYING: &[u8; 60] = b"The boiler in the cellar is out again; please bring a light.";
+const TEXT_QUOTA: u16 = 16;
+
+// How many letters each of the two rooms has.
+const JOBS: usize = SEATS * JOB_QUOTA as usize;
+
+const TEXTS: usize = SEATS * TEXT_QUOTA as usize;
+
+// How many letters a room has at the most.
+const MOST_LETTERS: u32 = 256;
+
+// The texts are fronts of this one, of so many characters or more.
+const SAYING: &[u8; LONGEST_TEXT] = b"The boiler in the cellar is out again; please bring a light.";
+
+const SHORTEST_FRONT: usize = 20;
 
 #[derive(Clone, Copy)]
 enum Make {
@@ -168,14 +181,14 @@ impl<B: Body, C: Carrier<Body = B>> Desk<'_, B, C> {
         shown
     }
 
-    // How many letters a seat shows until none is ready; it cannot hold more than 256.
+    // How many letters a seat shows until none is ready; it cannot hold more than a room has.
     fn show(&mut self, seat: u8) -> u32 {
-        for shown in 0..257 {
+        for shown in 0..MOST_LETTERS + 1 {
             if self.room.show(self.logs, self.holds, seat).is_err() {
                 return shown;
             }
         }
-        257
+        MOST_LETTERS + 1
     }
 
     // Draws up the log of each seat on the sheet.
@@ -270,7 +283,7 @@ fn work_over_pair<
 }
 
 // Makes the carrier, with place for all letters, and does the parts over it.
-fn run<B: Stored, K: Sheet<Body = B>>(
+fn run<B: Body, K: Sheet<Body = B>>(
     rt: &HostRuntime,
     setting: Setting,
     blank: Letter<B>,
@@ -305,7 +318,7 @@ fn make_job(at: u16) -> Result<Job, Refusal> {
 
 // The text that is posted there.
 fn make_text(at: u16) -> Result<Text, Refusal> {
-    let len = 20 + at as usize % 41;
+    let len = SHORTEST_FRONT + at as usize % (LONGEST_TEXT - SHORTEST_FRONT + 1);
     Text::new(&SAYING[..len])
 }
 
@@ -330,12 +343,12 @@ fn mixed(sum: u32, number: u32) -> u32 {
 
 fn run_jobs(rt: &HostRuntime, make: Make, parts: u8) -> Result<(), Stop> {
     let setting = Setting {
-        quota: 8,
+        quota: JOB_QUOTA,
         make,
         parts,
     };
-    let mut bodies = [Job::Add(0); 128];
-    for (at, body) in (0..256).zip(bodies.iter_mut()) {
+    let mut bodies = [Job::Add(0); JOBS];
+    for (at, body) in (0..JOBS as u16).zip(bodies.iter_mut()) {
         *body = make_job(at)?;
     }
     let mut list = JobList::new();
@@ -355,12 +368,12 @@ fn run_jobs(rt: &HostRuntime, make: Make, parts: u8) -> Result<(), Stop> {
 
 fn run_texts(rt: &HostRuntime, make: Make, parts: u8) -> Result<(), Stop> {
     let setting = Setting {
-        quota: 16,
+        quota: TEXT_QUOTA,
         make,
         parts,
     };
-    let mut bodies = [Text::default(); 256];
-    for (at, body) in (0..256).zip(bodies.iter_mut()) {
+    let mut bodies = [Text::default(); TEXTS];
+    for (at, body) in (0..TEXTS as u16).zip(bodies.iter_mut()) {
         *body = make_text(at)?;
     }
     let mut timeline = Timeline::new();

@@ -1,18 +1,18 @@
 // What a letter can carry.
-ghost use Rattle.std.specs.Prelude.{◌≡◌, ◌≤◌, true, length, None};
+ghost use Rattle.std.specs.Prelude.{◌≡◌, true, length, take, None};
 ghost use Rattle.letters.specs.Forms.{Form, Lawful};
 ghost use Rattle.letters.specs.Numbers.{padded};
 
 // How many bytes a record has for its body.
 pub const BODY_SPACE: usize = 60;
 
-// Bytes with zeros after them, in the space that a record has for its body.
-pub(crate) fn padded(front: &[u8]) -> [u8; BODY_SPACE]
-    requires { length front.now ≤ BODY_SPACE }
-    ensures { result ≡ padded BODY_SPACE front.now }
+// Bytes with zeros after them, in the space that a record has for its body. What is past the space is left out.
+pub fn padded(front: &[u8]) -> [u8; BODY_SPACE]
+    ensures { result ≡ padded BODY_SPACE (take BODY_SPACE front.now) }
 {
+    let kept = &front[..BODY_SPACE.min(front.len())];
     let mut bytes = [0; BODY_SPACE];
-    bytes[..front.len()].copy_from_slice(front);
+    bytes[..kept.len()].copy_from_slice(kept);
     bytes
 }
 
@@ -20,6 +20,9 @@ pub(crate) fn padded(front: &[u8]) -> [u8; BODY_SPACE]
 // A kind is the byte that a record has for it, and no enum: any crate may bring a type of bodies with kinds of its own.
 pub trait Body: Copy {
     ghost form: { Form Self };
+
+    // Some body: a row of a spool whose bytes were no record would be read as a letter with it. No spool ever has such a row.
+    ghost blank: { Self };
 
     // Whether there are bodies of this kind.
     fn has_kind(kind: u8) -> bool
@@ -51,6 +54,10 @@ pub trait Body: Copy {
     // This body's bytes, and zeros after them.
     fn to_bytes(&self) -> [u8; BODY_SPACE]
         ensures { result ≡ padded BODY_SPACE (form.bytes self.now) };
+
+    // The blank body.
+    fn make_blank() -> Self
+        ensures { result ≡ blank };
 
     ghost lawful: { Lawful form };
 }

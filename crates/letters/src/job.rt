@@ -1,5 +1,6 @@
 // Jobs as bodies of letters.
 ghost use Rattle.std.specs.Prelude.{◌≡◌, ◌∷◌, length, None};
+ghost use Rattle.letters.specs.declared.job.Job.TheVariants.{Add};
 ghost use Rattle.letters.specs.Jobs.{add_wrong, job_bytes, job_form, said, strike_answer, strike_wrong};
 ghost use Rattle.letters.specs.Numbers.{bytes_of_16, padded};
 ghost use Rattle.letters.specs.Refusals.{told};
@@ -84,6 +85,8 @@ fn read_strike(bytes: &[u8]) -> Job
 impl Body for Job {
     ghost form = { job_form };
 
+    ghost blank = { Add 0 };
+
     ghost lawful = { job_lawful };
 
     fn has_kind(kind: u8) -> bool {
@@ -126,5 +129,9 @@ impl Body for Job {
             Job::Add(code) => add_bytes(*code),
             Job::Strike(id) => strike_bytes(*id),
         }
+    }
+
+    fn make_blank() -> Job {
+        Job::Add(0)
     }
 }

@@ -3,10 +3,12 @@ ghost use Rattle.std.specs.Prelude.{◌≡◌, ◌-◌, ◌≤◌, false, length
 ghost use Rattle.letters.specs.declared.text.TheConstants.{LONGEST_TEXT};
 ghost use Rattle.letters.specs.Characters.{text_wrong};
 
+use crate::body::BODY_SPACE;
+
 pub mod reading;
 
 // How many bytes the longest text has.
-pub const LONGEST_TEXT: usize = 60;
+pub const LONGEST_TEXT: usize = BODY_SPACE;
 
 // A line of text: up to sixty printable characters, with zeros after them.
 // The characters stand in an array with their number beside them, and in no `String`: letters are copied, in fixed memory.

@@ -2,6 +2,7 @@
 use Rattle.std.proofs.Common.{◌≡◌, ℕ, zero, suc, ◌+◌, ◌*◌, ◌/◌, ◌%◌, ◌<◌, ◌≤◌, List, [], ◌∷◌, ◌++◌, length, get_or, take, sym, refl, ap, ◌∙◌, append_assoc, arith}
 use Rattle.std.specs.List.{flat_map}
 use Rattle.std.proofs.lemmas.List.{flat_map_more, get_or-take, length-take-le, take_more, take_all}
+use Rattle.records.specs.declared.stamps.TheConstants.{STAMP_SIZE}
 use Rattle.letters.specs.Numbers.{bytes_of_16, number_16}
 use Rattle.letters.specs.NumbersLemmas.{bytes_of_16_back, made_up_16}
 use Rattle.records.specs.Records.{paired}
@@ -28,7 +29,7 @@ written_more entries k h =
     ap written (take_more entries k 0 h) ∙ sym (flat_map_more bytes_of_16 [] (take k entries) (get_or entries k 0))
 
 -- entries that are the numbers of the pairs of bytes at the front
-module _ (bs entries : List ℕ) (long : length entries ≡ 16) (room : 32 ≤ length bs) (small : (i : ℕ) → get_or bs i 0 < 256)
+module _ (bs entries : List ℕ) (long : length entries ≡ 16) (room : STAMP_SIZE ≤ length bs) (small : (i : ℕ) → get_or bs i 0 < 256)
     (each : (k : ℕ) → k < 16 → get_or entries k 0 ≡ number_16 (2 * k) bs) where
   written_front : (k : ℕ) → k ≤ 16 → written (take k entries) ≡ take (2 * k) bs
   written_front zero h = refl
@@ -46,7 +47,7 @@ module _ (bs entries : List ℕ) (long : length entries ≡ 16) (room : 32 ≤ l
       ap (λ j. written (take j entries)) next ∙ written_more entries k (omega arith) in
       cc
 
-  pub written_all : written entries ≡ take 32 bs
+  pub written_all : written entries ≡ take STAMP_SIZE bs
   written_all = sym (ap written (take_all 16 entries (omega arith))) ∙ written_front 16 (omega arith)
 
 -- each byte is one of its entry's two
@@ -76,11 +77,11 @@ number_written (n ∷ entries) (suc k) h =
     omega arith
 
 -- and so in a record that begins with these bytes
-pub number_front : (entries bs : List ℕ) (k : ℕ) → written entries ≡ take 32 bs → 32 ≤ length bs → k < 16 → number_16 (2 * k) bs ≡ get_or entries k 0
+pub number_front : (entries bs : List ℕ) (k : ℕ) → written entries ≡ take STAMP_SIZE bs → STAMP_SIZE ≤ length bs → k < 16 → number_16 (2 * k) bs ≡ get_or entries k 0
 number_front entries bs k e long h =
-    let sized : 2 * length entries ≡ 32 = sym (length_written entries) ∙ ap length e ∙ length-take-le 32 bs long in
-    let low : get_or (take 32 bs) (2 * k) 0 ≡ get_or bs (2 * k) 0 = get_or-take 32 bs (2 * k) 0 (omega arith) in
-    let high : get_or (take 32 bs) (2 * k + 1) 0 ≡ get_or bs (2 * k + 1) 0 = get_or-take 32 bs (2 * k + 1) 0 (omega arith) in
+    let sized : 2 * length entries ≡ STAMP_SIZE = sym (length_written entries) ∙ ap length e ∙ length-take-le STAMP_SIZE bs long in
+    let low : get_or (take STAMP_SIZE bs) (2 * k) 0 ≡ get_or bs (2 * k) 0 = get_or-take STAMP_SIZE bs (2 * k) 0 (omega arith) in
+    let high : get_or (take STAMP_SIZE bs) (2 * k + 1) 0 ≡ get_or bs (2 * k + 1) 0 = get_or-take STAMP_SIZE bs (2 * k + 1) 0 (omega arith) in
     let inner = number_written entries k (omega arith) in
-    let moved : number_16 (2 * k) (written entries) ≡ number_16 (2 * k) (take 32 bs) = ap (number_16 (2 * k)) e in
+    let moved : number_16 (2 * k) (written entries) ≡ number_16 (2 * k) (take STAMP_SIZE bs) = ap (number_16 (2 * k)) e in
     omega arith

@@ -1,6 +1,7 @@
--- The 36 bytes before the body, when none of them is wrong.
+-- What stands before the body, when nothing of it is wrong.
 use Rattle.std.proofs.Common.{◌≡◌, ℕ, ◌*◌, ◌<◌, true, eqb, ltb, List, None}
 use Rattle.std.proofs.lemmas.Bool.{eqb-true, ltb-true, lt-ltb, eq-eqb}
+use Rattle.records.specs.declared.record.TheConstants.{KIND_PLACE, LENGTH_PLACE, POSTER_PLACE, ZERO_PLACE}
 use Rattle.letters.specs.Forms.{Form}
 use Rattle.letters.specs.Numbers.{number_16}
 use Rattle.letters.specs.ChecksLemmas.{passed}
@@ -16,11 +17,11 @@ pub record RightHeader {B : Type 0} (form : Form B) (bs : List ℕ) : Type 0 whe
 module _ {B : Type 0} (form : Form B) (bs : List ℕ) where
   pub right_header : wrong_header form bs ≡ None → RightHeader form bs
   right_header e =
-      let a = passed (ltb (poster_byte bs) 16) 32 _ e in
+      let a = passed (ltb (poster_byte bs) 16) POSTER_PLACE _ e in
       let b = passed (ltb 0 (number_16 (2 * poster_byte bs) bs)) (2 * poster_byte bs) _ a.1 in
-      let c = passed (form.has_kind (kind_byte bs)) 33 _ b.1 in
-      let d = passed (form.has_length (kind_byte bs) (length_byte bs)) 34 _ c.1 in
-      let f = passed (eqb (zero_byte bs) 0) 35 _ d.1 in
+      let c = passed (form.has_kind (kind_byte bs)) KIND_PLACE _ b.1 in
+      let d = passed (form.has_length (kind_byte bs) (length_byte bs)) LENGTH_PLACE _ c.1 in
+      let f = passed (eqb (zero_byte bs) 0) ZERO_PLACE _ d.1 in
       record {
         seated = ltb-true (poster_byte bs) 16 a.0;
         counted = ltb-true 0 (number_16 (2 * poster_byte bs) bs) b.0;

@@ -2,6 +2,8 @@
 use Rattle.std.proofs.Common.{◌≡◌, ℕ, zero, suc, ◌+◌, ◌-◌, ◌*◌, ◌/◌, ◌%◌, ◌<◌, ◌≤◌, Bool, true, false, cond, ◌⊎◌, inl, inr, ⊎_elim, eqb, ltb, leb, List, [], ◌∷◌, length, get_or, take, drop, replicate, Some, None, Err, Option, Result, ◌==◌, sym, refl, ap, ◌∙◌, subst, arith}
 use Rattle.std.proofs.lemmas.List.{get_or-take, get_or-drop, get_or_past, get_or-replicate, length-take, length-drop, length-take-le}
 use Rattle.std.proofs.lemmas.Bool.{cases_lt, ne_eqb, eq-eqb, eqb-true, eqb-false, le-ltb, lt-ltb, ltb-true, ltb-false, leb-true, true≢false}
+use Rattle.records.specs.declared.record.TheConstants.{BODY_END, BODY_PLACE, KIND_PLACE, LENGTH_PLACE, POSTER_PLACE, RECORD_SIZE, ZERO_PLACE}
+use Rattle.records.specs.declared.stamps.TheConstants.{STAMP_SIZE}
 use Rattle.letters.specs.declared.letter.Letter.{Letter}
 use Rattle.letters.specs.Checks.{first_failing}
 use Rattle.letters.specs.ChecksLemmas.{failed, fails_at, some_none}
@@ -14,11 +16,11 @@ use Rattle.records.specs.declared.fault.Fault.{Fault}
 use Rattle.records.specs.Faults.{told_fault}
 use Rattle.records.specs.Reading.{read_answer}
 use Rattle.records.specs.Naming.{AgreesBefore, FirstWrongByte, Named, turn}
-use Rattle.records.specs.declared.record.TheConstants.{RECORD_SIZE}
 use Rattle.records.specs.Records.{body_part, first_of, is_zero, kind_byte, length_byte, padding, poster_byte, record_of, wrong_byte, wrong_front, wrong_header, zero_byte}
 use Rattle.records.proofs.Entries.{byte_written, number_front}
 use Rattle.records.proofs.Finding.{answered_wrong}
 use Rattle.records.proofs.Headers.{RightHeader, right_header}
+use Rattle.records.proofs.Padding.{padding_at, padding_long}
 use Rattle.records.proofs.Parts.{blank_is, body_is, kind_is, length_is, padding_is, poster_is, stamp_is}
 use Rattle.records.proofs.RoundTrip.{front_whole, record_long}
 
@@ -37,23 +39,23 @@ module _ {B : Type 0} (form : Form B) (laws : Lawful form) where
     abbrev inner : List ℕ
     inner = form.bytes m.body
 
-    in_stamp : (k : ℕ) → k < 32 → get_or rec k 0 ≡ get_or (bytes_of_16 (get_or m.stamp.entries (k / 2) 0)) (k % 2) 0
+    in_stamp : (k : ℕ) → k < STAMP_SIZE → get_or rec k 0 ≡ get_or (bytes_of_16 (get_or m.stamp.entries (k / 2) 0)) (k % 2) 0
     in_stamp k h =
-        sym (get_or-take 32 rec k 0 h) ∙ ap (λ l. get_or l k 0) (stamp_is form (parts_of m) m.sized)
+        sym (get_or-take STAMP_SIZE rec k 0 h) ∙ ap (λ l. get_or l k 0) (stamp_is form (parts_of m) m.sized)
         ∙ byte_written m.stamp.entries k (omega (arith, m.sized))
 
-    in_body : (j : ℕ) → j < length inner → get_or rec (36 + j) 0 ≡ get_or inner j 0
+    in_body : (j : ℕ) → j < length inner → get_or rec (BODY_PLACE + j) 0 ≡ get_or inner j 0
     in_body j h =
         let size : length_byte rec ≡ length inner = length_is form (parts_of m) m.sized in
-        sym (get_or-drop 36 rec j 0) ∙ sym (get_or-take (length_byte rec) (drop 36 rec) j 0 (omega (arith, size)))
+        sym (get_or-drop BODY_PLACE rec j 0) ∙ sym (get_or-take (length_byte rec) (drop BODY_PLACE rec) j 0 (omega (arith, size)))
         ∙ ap (λ l. get_or l j 0) (body_is form (parts_of m) m.sized)
 
-    in_rest : (k : ℕ) → 36 + length inner ≤ k → k < RECORD_SIZE → get_or rec k 0 ≡ 0
+    in_rest : (k : ℕ) → BODY_PLACE + length inner ≤ k → k < BODY_END → get_or rec k 0 ≡ 0
     in_rest k h l =
         let size : length_byte rec ≡ length inner = length_is form (parts_of m) m.sized in
-        let i : ℕ = k - (36 + length inner) in
-        let at : 36 + length_byte rec + i ≡ k = omega (arith, size) in
-        sym (ap (λ n. get_or rec n 0) at) ∙ sym (get_or-drop (36 + length_byte rec) rec i 0)
+        let i : ℕ = k - (BODY_PLACE + length inner) in
+        let at : BODY_PLACE + length_byte rec + i ≡ k = omega (arith, size) in
+        sym (ap (λ n. get_or rec n 0) at) ∙ sym (padding_at rec i (omega arith))
         ∙ ap (λ l. get_or l i 0) (padding_is form (parts_of m) m.sized)
         ∙ get_or-replicate (BODY_SPACE - length inner) i 0 0 (omega arith)
 
@@ -74,75 +76,75 @@ module _ {B : Type 0} (form : Form B) (laws : Lawful form) where
     starts j = form.starts (kind_byte bs) len j
 
     -- the turns
-    turn_stamp : (k : ℕ) → k < 32 → ((k / 2 ≡ s) × (turn form bs k ≡ 1)) ⊎ (turn form bs k ≡ RECORD_SIZE)
+    turn_stamp : (k : ℕ) → k < STAMP_SIZE → ((k / 2 ≡ s) × (turn form bs k ≡ 1)) ⊎ (turn form bs k ≡ RECORD_SIZE)
     turn_stamp k h = go (k / 2 == s) refl
       where
         is : turn form bs k ≡ cond (k / 2 == s) 1 RECORD_SIZE
         is =
-            let a : eqb k 32 ≡ false = ne_eqb k 32 (λ e. omega arith) in
-            let b : ltb k 32 ≡ true = lt-ltb k 32 h in
+            let a : eqb k POSTER_PLACE ≡ false = ne_eqb k POSTER_PLACE (λ e. omega arith) in
+            let b : ltb k STAMP_SIZE ≡ true = lt-ltb k STAMP_SIZE h in
             rw (a, b)
 
         go : (own : Bool) → (k / 2 == s) ≡ own → ((k / 2 ≡ s) × (turn form bs k ≡ 1)) ⊎ (turn form bs k ≡ RECORD_SIZE)
         go true e = inl (eqb-true (k / 2) s e, is ∙ ap (λ b. cond b 1 RECORD_SIZE) e)
         go false e = inr (is ∙ ap (λ b. cond b 1 RECORD_SIZE) e)
 
-    turn_own : (k : ℕ) → k < 32 → k / 2 ≡ s → turn form bs k ≡ 1
+    turn_own : (k : ℕ) → k < STAMP_SIZE → k / 2 ≡ s → turn form bs k ≡ 1
     turn_own k h e =
-        let a : eqb k 32 ≡ false = ne_eqb k 32 (λ e. omega arith) in
-        let b : ltb k 32 ≡ true = lt-ltb k 32 h in
+        let a : eqb k POSTER_PLACE ≡ false = ne_eqb k POSTER_PLACE (λ e. omega arith) in
+        let b : ltb k STAMP_SIZE ≡ true = lt-ltb k STAMP_SIZE h in
         let c : eqb (k / 2) s ≡ true = eq-eqb (k / 2) s e in
         rw (a, b, c)
 
-    turn_head : (k : ℕ) → 32 < k → k < 36 → turn form bs k ≡ k
+    turn_head : (k : ℕ) → POSTER_PLACE < k → k < BODY_PLACE → turn form bs k ≡ k
     turn_head k h l =
-        let a : eqb k 32 ≡ false = ne_eqb k 32 (λ e. omega arith) in
-        let b : ltb k 32 ≡ false = le-ltb k 32 (omega arith) in
-        let c : ltb k 36 ≡ true = lt-ltb k 36 l in
+        let a : eqb k POSTER_PLACE ≡ false = ne_eqb k POSTER_PLACE (λ e. omega arith) in
+        let b : ltb k STAMP_SIZE ≡ false = le-ltb k STAMP_SIZE (omega arith) in
+        let c : ltb k BODY_PLACE ≡ true = lt-ltb k BODY_PLACE l in
         rw (a, b, c)
 
-    turn_body : (k : ℕ) → 36 ≤ k → k < 36 + len → turn form bs k ≡ 36 + starts (k - 36)
+    turn_body : (k : ℕ) → BODY_PLACE ≤ k → k < BODY_PLACE + len → turn form bs k ≡ BODY_PLACE + starts (k - BODY_PLACE)
     turn_body k h l =
-        let a : eqb k 32 ≡ false = ne_eqb k 32 (λ e. omega arith) in
-        let b : ltb k 32 ≡ false = le-ltb k 32 (omega arith) in
-        let c : ltb k 36 ≡ false = le-ltb k 36 h in
-        let d : ltb k (36 + len) ≡ true = lt-ltb k (36 + len) l in
+        let a : eqb k POSTER_PLACE ≡ false = ne_eqb k POSTER_PLACE (λ e. omega arith) in
+        let b : ltb k STAMP_SIZE ≡ false = le-ltb k STAMP_SIZE (omega arith) in
+        let c : ltb k BODY_PLACE ≡ false = le-ltb k BODY_PLACE h in
+        let d : ltb k (BODY_PLACE + len) ≡ true = lt-ltb k (BODY_PLACE + len) l in
         rw (a, b, c, d)
 
-    turn_rest : (k : ℕ) → 36 + len ≤ k → turn form bs k ≡ k
+    turn_rest : (k : ℕ) → BODY_PLACE + len ≤ k → turn form bs k ≡ k
     turn_rest k h =
-        let a : eqb k 32 ≡ false = ne_eqb k 32 (λ e. omega arith) in
-        let b : ltb k 32 ≡ false = le-ltb k 32 (omega arith) in
-        let c : ltb k 36 ≡ false = le-ltb k 36 (omega arith) in
-        let d : ltb k (36 + len) ≡ false = le-ltb k (36 + len) h in
+        let a : eqb k POSTER_PLACE ≡ false = ne_eqb k POSTER_PLACE (λ e. omega arith) in
+        let b : ltb k STAMP_SIZE ≡ false = le-ltb k STAMP_SIZE (omega arith) in
+        let c : ltb k BODY_PLACE ≡ false = le-ltb k BODY_PLACE (omega arith) in
+        let d : ltb k (BODY_PLACE + len) ≡ false = le-ltb k (BODY_PLACE + len) h in
         rw (a, b, c, d)
 
     -- no place behind the poster has a turn behind its own
-    turn_back : (k : ℕ) → 32 ≤ k → turn form bs k ≤ k
+    turn_back : (k : ℕ) → POSTER_PLACE ≤ k → turn form bs k ≤ k
     turn_back k h = ⊎_elim
         (λ l. ⊎_elim
         (λ e. subst (λ j. turn form bs j ≤ j) e (omega arith))
         (λ g. let e = turn_head k g l in omega arith)
         (either k h))
         (λ g. ⊎_elim
-        (λ l. let e = turn_body k g l in let b = laws.starts_back (kind_byte bs) len (k - 36) in omega arith)
+        (λ l. let e = turn_body k g l in let b = laws.starts_back (kind_byte bs) len (k - BODY_PLACE) in omega arith)
         (λ r. let e = turn_rest k r in omega arith)
-        (cases_lt k (36 + len)))
-        (cases_lt k 36)
+        (cases_lt k (BODY_PLACE + len)))
+        (cases_lt k BODY_PLACE)
       where
-        either : (k : ℕ) → 32 ≤ k → (32 ≡ k) ⊎ (32 < k)
-        either k h = ⊎_elim (λ l. inl (omega arith)) (λ g. inr (omega arith)) (cases_lt k 33)
+        either : (k : ℕ) → POSTER_PLACE ≤ k → (POSTER_PLACE ≡ k) ⊎ (POSTER_PLACE < k)
+        either k h = ⊎_elim (λ l. inl (omega arith)) (λ g. inr (omega arith)) (cases_lt k KIND_PLACE)
 
     -- what a letter has to have so that its record agrees before a turn
     record Fits (m : Letter B) (t : ℕ) : Type 0 where
       few : t ≤ RECORD_SIZE
       poster : 0 < t → m.poster ≡ s
       number : 1 < t → get_or m.stamp.entries s 0 ≡ number_16 (2 * s) bs
-      kind : 33 < t → form.kind m.body ≡ kind_byte bs
-      size : 34 < t → length (form.bytes m.body) ≡ len
-      blank : 35 < t → zero_byte bs ≡ 0
-      body : (j : ℕ) → j < len → 36 + starts j < t → get_or (form.bytes m.body) j 0 ≡ get_or bs (36 + j) 0
-      rest : (k : ℕ) → 36 + len ≤ k → k < t → get_or bs k 0 ≡ 0
+      kind : KIND_PLACE < t → form.kind m.body ≡ kind_byte bs
+      size : LENGTH_PLACE < t → length (form.bytes m.body) ≡ len
+      blank : ZERO_PLACE < t → zero_byte bs ≡ 0
+      body : (j : ℕ) → j < len → BODY_PLACE + starts j < t → get_or (form.bytes m.body) j 0 ≡ get_or bs (BODY_PLACE + j) 0
+      rest : (k : ℕ) → BODY_PLACE + len ≤ k → k < t → get_or bs k 0 ≡ 0
 
     pair : (n r : ℕ) → r < 2 → get_or (get_or bs n 0 ∷ get_or bs (n + 1) 0 ∷ []) r 0 ≡ get_or bs (n + r) 0
     pair n zero h = let e : n ≡ n + 0 = omega arith in ap (λ k. get_or bs k 0) e
@@ -150,7 +152,7 @@ module _ {B : Type 0} (form : Form B) (laws : Lawful form) where
     pair n (suc (suc r)) h = absurd (omega arith)
 
     module _ (m : Letter B) (t : ℕ) (fits : Fits m t) where
-      agree_stamp : (k : ℕ) → k < 32 → turn form bs k < t → get_or (rec m) k 0 ≡ get_or bs k 0
+      agree_stamp : (k : ℕ) → k < STAMP_SIZE → turn form bs k < t → get_or (rec m) k 0 ≡ get_or bs k 0
       agree_stamp k h before = ⊎_elim
           (λ own.
           let entry = ap (λ p. get_or m.stamp.entries p 0) own.0 ∙ fits.number (omega (arith, own.1)) in
@@ -161,31 +163,31 @@ module _ {B : Type 0} (form : Form B) (laws : Lawful form) where
           (λ past. absurd (omega (arith, past, fits.few)))
           (turn_stamp k h)
 
-      agree_body : (k : ℕ) → 36 ≤ k → k < 36 + len → turn form bs k < t → get_or (rec m) k 0 ≡ get_or bs k 0
+      agree_body : (k : ℕ) → BODY_PLACE ≤ k → k < BODY_PLACE + len → turn form bs k < t → get_or (rec m) k 0 ≡ get_or bs k 0
       agree_body k h l before =
           let e = turn_body k h l in
-          let at : 36 + (k - 36) ≡ k = omega arith in
+          let at : BODY_PLACE + (k - BODY_PLACE) ≡ k = omega arith in
           let size = fits.size (omega arith) in
-          sym (ap (λ n. get_or (rec m) n 0) at) ∙ in_body m (k - 36) (omega arith)
-          ∙ fits.body (k - 36) (omega arith) (omega arith) ∙ ap (λ n. get_or bs n 0) at
+          sym (ap (λ n. get_or (rec m) n 0) at) ∙ in_body m (k - BODY_PLACE) (omega arith)
+          ∙ fits.body (k - BODY_PLACE) (omega arith) (omega arith) ∙ ap (λ n. get_or bs n 0) at
 
-      agree_rest : (k : ℕ) → 36 + len ≤ k → turn form bs k < t → get_or (rec m) k 0 ≡ get_or bs k 0
+      agree_rest : (k : ℕ) → BODY_PLACE + len ≤ k → turn form bs k < t → get_or (rec m) k 0 ≡ get_or bs k 0
       agree_rest k h before =
           let e = turn_rest k h in
           let size = fits.size (omega arith) in
           in_rest m k (omega arith) (omega (arith, fits.few)) ∙ sym (fits.rest k h (omega arith))
 
-      agree_head : (k : ℕ) → 32 ≤ k → k < 36 → turn form bs k < t → get_or (rec m) k 0 ≡ get_or bs k 0
+      agree_head : (k : ℕ) → POSTER_PLACE ≤ k → k < BODY_PLACE → turn form bs k < t → get_or (rec m) k 0 ≡ get_or bs k 0
       agree_head k h l before = ⊎_elim
-          (λ a. at 32 (omega arith) (λ b. poster_is form (parts_of m) m.sized ∙ fits.poster (omega arith)))
+          (λ a. at POSTER_PLACE (omega arith) (λ b. poster_is form (parts_of m) m.sized ∙ fits.poster (omega arith)))
           (λ a. ⊎_elim
-          (λ b. at 33 (omega arith) (λ c. kind_is form (parts_of m) m.sized ∙ fits.kind (omega arith)))
+          (λ b. at KIND_PLACE (omega arith) (λ c. kind_is form (parts_of m) m.sized ∙ fits.kind (omega arith)))
           (λ b. ⊎_elim
-          (λ c. at 34 (omega arith) (λ d. length_is form (parts_of m) m.sized ∙ fits.size (omega arith)))
-          (λ c. at 35 (omega arith) (λ d. blank_is form (parts_of m) m.sized ∙ sym (fits.blank (omega arith))))
-          (cases_lt k 35))
-          (cases_lt k 34))
-          (cases_lt k 33)
+          (λ c. at LENGTH_PLACE (omega arith) (λ d. length_is form (parts_of m) m.sized ∙ fits.size (omega arith)))
+          (λ c. at ZERO_PLACE (omega arith) (λ d. blank_is form (parts_of m) m.sized ∙ sym (fits.blank (omega arith))))
+          (cases_lt k ZERO_PLACE))
+          (cases_lt k LENGTH_PLACE))
+          (cases_lt k KIND_PLACE)
         where
           at : (j : ℕ) → j ≡ k → (turn form bs j < t → get_or (rec m) j 0 ≡ get_or bs j 0) → get_or (rec m) k 0 ≡ get_or bs k 0
           at j e so = subst (λ i. get_or (rec m) i 0 ≡ get_or bs i 0) e (so (subst (λ i. turn form bs i < t) (sym e) before))
@@ -198,30 +200,30 @@ module _ {B : Type 0} (form : Form B) (laws : Lawful form) where
           (λ h. ⊎_elim
           (λ l. agree_body k h l before)
           (λ r. agree_rest k r before)
-          (cases_lt k (36 + len)))
-          (cases_lt k 36))
-          (cases_lt k 32)
+          (cases_lt k (BODY_PLACE + len)))
+          (cases_lt k BODY_PLACE))
+          (cases_lt k STAMP_SIZE)
 
     -- a place whose turn is its own is the first with it
-    first_late : (p : ℕ) → 32 < p → p < RECORD_SIZE → turn form bs p ≡ p → (k : ℕ) → turn form bs k ≡ turn form bs p → p ≤ k
+    first_late : (p : ℕ) → POSTER_PLACE < p → p < RECORD_SIZE → turn form bs p ≡ p → (k : ℕ) → turn form bs k ≡ turn form bs p → p ≤ k
     first_late p h l e k same = ⊎_elim
         (λ lt. ⊎_elim (λ own. absurd (omega (arith, own.1))) (λ past. absurd (omega arith)) (turn_stamp k lt))
         (λ ge. let back = turn_back k ge in omega arith)
-        (cases_lt k 32)
+        (cases_lt k STAMP_SIZE)
 
     some_body : B
     some_body = form.body 0 []
 
-    poster_wrong : 16 ≤ s → FirstWrongByte form bs 32
+    poster_wrong : 16 ≤ s → FirstWrongByte form bs POSTER_PLACE
     poster_wrong h = record {
       looked_at = omega arith;
       first = λ k same. ⊎_elim
           (λ lt. ⊎_elim (λ own. absurd (omega (arith, own.1))) (λ past. absurd (omega arith)) (turn_stamp k lt))
           (λ ge. ge)
-          (cases_lt k 32);
+          (cases_lt k STAMP_SIZE);
       before = (with_number 0 1 some_body (omega arith) (omega arith), λ k early. absurd (omega arith));
       never = λ m agree.
-          let same : get_or (rec m) 32 0 ≡ s = agree 32 (omega arith) in
+          let same : get_or (rec m) POSTER_PLACE 0 ≡ s = agree POSTER_PLACE (omega arith) in
           let is = poster_is form (parts_of m) m.sized in
           omega (arith, m.seated);
     }
@@ -251,10 +253,10 @@ module _ {B : Type 0} (form : Form B) (laws : Lawful form) where
             first = λ k same. ⊎_elim
                 (λ lt. ⊎_elim (λ own. omega (arith, own.0)) (λ past. absurd (omega (arith, low_turn))) (turn_stamp k lt))
                 (λ ge. omega arith)
-                (cases_lt k 32);
+                (cases_lt k STAMP_SIZE);
             before = (letter, subst (λ t. AgreesBefore form bs t letter) (sym low_turn) (agrees letter 1 fits));
             never = λ m agree.
-                let same : get_or (rec m) 32 0 ≡ s = agree 32 (omega (arith, low_turn)) in
+                let same : get_or (rec m) POSTER_PLACE 0 ≡ s = agree POSTER_PLACE (omega (arith, low_turn)) in
                 let own : m.poster ≡ s = sym (poster_is form (parts_of m) m.sized) ∙ same in
                 let low : get_or (rec m) (2 * s) 0 ≡ get_or bs (2 * s) 0 = agree (2 * s) (omega arith) in
                 let high : get_or (rec m) (2 * s + 1) 0 ≡ get_or bs (2 * s + 1) 0 = agree (2 * s + 1) (omega (arith, low_turn, high_turn)) in
@@ -274,13 +276,13 @@ module _ {B : Type 0} (form : Form B) (laws : Lawful form) where
         entry_is : get_or (replicate 16 (number_16 (2 * s) bs)) s 0 ≡ number_16 (2 * s) bs
         entry_is = get_or-replicate 16 s (number_16 (2 * s) bs) 0 seat
 
-        kind_wrong : form.has_kind (kind_byte bs) ≡ false → FirstWrongByte form bs 33
+        kind_wrong : form.has_kind (kind_byte bs) ≡ false → FirstWrongByte form bs KIND_PLACE
         kind_wrong e = record {
           looked_at = omega arith;
-          first = first_late 33 (omega arith) (omega arith) refl;
+          first = first_late KIND_PLACE (omega arith) (omega arith) refl;
           before = (
             given some_body,
-            agrees (given some_body) 33 (record {
+            agrees (given some_body) KIND_PLACE (record {
               few = omega arith;
               poster = λ h. refl;
               number = λ h. entry_is;
@@ -292,20 +294,20 @@ module _ {B : Type 0} (form : Form B) (laws : Lawful form) where
             }),
           );
           never = λ m agree.
-              let same : form.kind m.body ≡ kind_byte bs = sym (kind_is form (parts_of m) m.sized) ∙ agree 33 (omega arith) in
+              let same : form.kind m.body ≡ kind_byte bs = sym (kind_is form (parts_of m) m.sized) ∙ agree KIND_PLACE (omega arith) in
               true≢false (sym (laws.kind_right m.body) ∙ ap form.has_kind same ∙ e);
         }
 
         module _ (known : form.has_kind (kind_byte bs) ≡ true) where
-          size_wrong : form.has_length (kind_byte bs) len ≡ false → FirstWrongByte form bs 34
+          size_wrong : form.has_length (kind_byte bs) len ≡ false → FirstWrongByte form bs LENGTH_PLACE
           size_wrong e =
               let b = laws.kind_known (kind_byte bs) known in
               record {
                 looked_at = omega arith;
-                first = first_late 34 (omega arith) (omega arith) refl;
+                first = first_late LENGTH_PLACE (omega arith) (omega arith) refl;
                 before = (
                   given b.0,
-                  agrees (given b.0) 34 (record {
+                  agrees (given b.0) LENGTH_PLACE (record {
                     few = omega arith;
                     poster = λ h. refl;
                     number = λ h. entry_is;
@@ -317,8 +319,8 @@ module _ {B : Type 0} (form : Form B) (laws : Lawful form) where
                   }),
                 );
                 never = λ m agree.
-                    let kind : form.kind m.body ≡ kind_byte bs = sym (kind_is form (parts_of m) m.sized) ∙ agree 33 (omega arith) in
-                    let size : length (form.bytes m.body) ≡ len = sym (length_is form (parts_of m) m.sized) ∙ agree 34 (omega arith) in
+                    let kind : form.kind m.body ≡ kind_byte bs = sym (kind_is form (parts_of m) m.sized) ∙ agree KIND_PLACE (omega arith) in
+                    let size : length (form.bytes m.body) ≡ len = sym (length_is form (parts_of m) m.sized) ∙ agree LENGTH_PLACE (omega arith) in
                     true≢false (sym (laws.length_right m.body) ∙ ap (λ k. form.has_length k (length (form.bytes m.body))) kind ∙ ap (form.has_length (kind_byte bs)) size ∙ e);
               }
 
@@ -326,15 +328,15 @@ module _ {B : Type 0} (form : Form B) (laws : Lawful form) where
             room : len ≤ BODY_SPACE
             room = laws.short (kind_byte bs) len sized
 
-            blank_wrong : ¬ (zero_byte bs ≡ 0) → FirstWrongByte form bs 35
+            blank_wrong : ¬ (zero_byte bs ≡ 0) → FirstWrongByte form bs ZERO_PLACE
             blank_wrong e =
                 let b = laws.length_known (kind_byte bs) len known sized in
                 record {
                   looked_at = omega arith;
-                  first = first_late 35 (omega arith) (omega arith) refl;
+                  first = first_late ZERO_PLACE (omega arith) (omega arith) refl;
                   before = (
                     given b.0,
-                    agrees (given b.0) 35 (record {
+                    agrees (given b.0) ZERO_PLACE (record {
                       few = omega arith;
                       poster = λ h. refl;
                       number = λ h. entry_is;
@@ -345,31 +347,31 @@ module _ {B : Type 0} (form : Form B) (laws : Lawful form) where
                       rest = λ k h l. absurd (omega arith);
                     }),
                   );
-                  never = λ m agree. e (sym (agree 35 (omega arith)) ∙ blank_is form (parts_of m) m.sized);
+                  never = λ m agree. e (sym (agree ZERO_PLACE (omega arith)) ∙ blank_is form (parts_of m) m.sized);
                 }
 
             module _ (blank : zero_byte bs ≡ 0) where
               -- the body's bytes
               body_long : length (body_part bs) ≡ len
-              body_long = length-take-le len (drop 36 bs) (omega (arith, room, length-drop 36 bs))
+              body_long = length-take-le len (drop BODY_PLACE bs) (omega (arith, room, length-drop BODY_PLACE bs))
 
-              body_at : (j : ℕ) → j < len → get_or (body_part bs) j 0 ≡ get_or bs (36 + j) 0
-              body_at j h = get_or-take len (drop 36 bs) j 0 h ∙ get_or-drop 36 bs j 0
+              body_at : (j : ℕ) → j < len → get_or (body_part bs) j 0 ≡ get_or bs (BODY_PLACE + j) 0
+              body_at j h = get_or-take len (drop BODY_PLACE bs) j 0 h ∙ get_or-drop BODY_PLACE bs j 0
 
               body_small : (i : ℕ) → get_or (body_part bs) i 0 < 256
               body_small i = ⊎_elim
-                  (λ h. subst (λ b. b < 256) (sym (body_at i h)) (small (36 + i)))
+                  (λ h. subst (λ b. b < 256) (sym (body_at i h)) (small (BODY_PLACE + i)))
                   (λ h. let past = get_or_past (body_part bs) i 0 (omega (arith, body_long)) in omega arith)
                   (cases_lt i len)
 
-              body_wrong : (j : ℕ) → FirstWrong form (kind_byte bs) len (body_part bs) j → FirstWrongByte form bs (36 + j)
+              body_wrong : (j : ℕ) → FirstWrong form (kind_byte bs) len (body_part bs) j → FirstWrongByte form bs (BODY_PLACE + j)
               body_wrong j wrong =
                   let b = wrong.before in
-                  let back : 36 + j - 36 ≡ j = omega arith in
-                  let own : turn form bs (36 + j) ≡ 36 + j =
-                  turn_body (36 + j) (omega arith) (omega (arith, wrong.inside)) ∙ ap (λ i. 36 + starts i) back ∙ ap (λ i. 36 + i) wrong.own in
+                  let back : BODY_PLACE + j - BODY_PLACE ≡ j = omega arith in
+                  let own : turn form bs (BODY_PLACE + j) ≡ BODY_PLACE + j =
+                  turn_body (BODY_PLACE + j) (omega arith) (omega (arith, wrong.inside)) ∙ ap (λ i. BODY_PLACE + starts i) back ∙ ap (λ i. BODY_PLACE + i) wrong.own in
                   let letter : Letter B = given b.0 in
-                  let fits : Fits letter (36 + j) = record {
+                  let fits : Fits letter (BODY_PLACE + j) = record {
                     few = omega (arith, wrong.inside, room);
                     poster = λ h. refl;
                     number = λ h. entry_is;
@@ -381,29 +383,29 @@ module _ {B : Type 0} (form : Form B) (laws : Lawful form) where
                   } in
                   record {
                     looked_at = omega (arith, wrong.inside, room, own);
-                    first = first_late (36 + j) (omega arith) (omega (arith, wrong.inside, room)) own;
-                    before = (letter, subst (λ t. AgreesBefore form bs t letter) (sym own) (agrees letter (36 + j) fits));
+                    first = first_late (BODY_PLACE + j) (omega arith) (omega (arith, wrong.inside, room)) own;
+                    before = (letter, subst (λ t. AgreesBefore form bs t letter) (sym own) (agrees letter (BODY_PLACE + j) fits));
                     never = λ m agree.
-                        let kind : form.kind m.body ≡ kind_byte bs = sym (kind_is form (parts_of m) m.sized) ∙ agree 33 (omega (arith, own)) in
-                        let size : length (form.bytes m.body) ≡ len = sym (length_is form (parts_of m) m.sized) ∙ agree 34 (omega (arith, own)) in
+                        let kind : form.kind m.body ≡ kind_byte bs = sym (kind_is form (parts_of m) m.sized) ∙ agree KIND_PLACE (omega (arith, own)) in
+                        let size : length (form.bytes m.body) ≡ len = sym (length_is form (parts_of m) m.sized) ∙ agree LENGTH_PLACE (omega (arith, own)) in
                         wrong.never m.body kind size
                         (λ i h l.
-                        let at : 36 + i - 36 ≡ i = omega arith in
-                        let t : turn form bs (36 + i) ≡ 36 + starts i = turn_body (36 + i) (omega arith) (omega arith) ∙ ap (λ k. 36 + starts k) at in
-                        sym (in_body m i (omega arith)) ∙ agree (36 + i) (omega (arith, own, t)) ∙ sym (body_at i h));
+                        let at : BODY_PLACE + i - BODY_PLACE ≡ i = omega arith in
+                        let t : turn form bs (BODY_PLACE + i) ≡ BODY_PLACE + starts i = turn_body (BODY_PLACE + i) (omega arith) (omega arith) ∙ ap (λ k. BODY_PLACE + starts k) at in
+                        sym (in_body m i (omega arith)) ∙ agree (BODY_PLACE + i) (omega (arith, own, t)) ∙ sym (body_at i h));
                   }
 
-              rest_wrong : form.wrong (kind_byte bs) (body_part bs) ≡ None → (p : ℕ) → first_failing is_zero (36 + len) (padding bs) ≡ Some p → FirstWrongByte form bs p
+              rest_wrong : form.wrong (kind_byte bs) (body_part bs) ≡ None → (p : ℕ) → first_failing is_zero (BODY_PLACE + len) (padding bs) ≡ Some p → FirstWrongByte form bs p
               rest_wrong right p e =
-                  let fails = fails_at is_zero (36 + len) (padding bs) p e in
+                  let fails = fails_at is_zero (BODY_PLACE + len) (padding bs) p e in
                   let sized' : form.has_length (kind_byte bs) (length (body_part bs)) ≡ true = ap (form.has_length (kind_byte bs)) body_long ∙ sized in
                   let b = laws.bytes_known (kind_byte bs) (body_part bs) body_small known sized' right in
-                  let left : length (padding bs) ≡ RECORD_SIZE - (36 + len) = length-drop (36 + len) bs ∙ ap (λ n. n - (36 + len)) long in
+                  let left : length (padding bs) ≡ BODY_END - (BODY_PLACE + len) = padding_long bs long in
                   let size : length (form.bytes b.0) ≡ len = ap length b.2 ∙ body_long in
-                  let few : p < RECORD_SIZE = omega (arith, fails.is, fails.inside, room) in
-                  let late : 36 + len ≤ p = omega (arith, fails.is) in
+                  let few : p < BODY_END = omega (arith, fails.is, fails.inside, room) in
+                  let late : BODY_PLACE + len ≤ p = omega (arith, fails.is) in
                   let own : turn form bs p ≡ p = turn_rest p late in
-                  let at : p ≡ 36 + len + fails.at = fails.is in
+                  let at : p ≡ BODY_PLACE + len + fails.at = fails.is in
                   let letter : Letter B = given b.0 in
                   let fits : Fits letter p = record {
                     few = omega arith;
@@ -414,18 +416,18 @@ module _ {B : Type 0} (form : Form B) (laws : Lawful form) where
                     blank = λ h. blank;
                     body = λ j h l. ap (λ l. get_or l j 0) b.2 ∙ body_at j h;
                     rest = λ k h l.
-                        let i : ℕ = k - (36 + len) in
-                        let here : 36 + len + i ≡ k = omega arith in
-                        sym (ap (λ n. get_or bs n 0) here) ∙ sym (get_or-drop (36 + len) bs i 0) ∙ eqb-true (get_or (padding bs) i 0) 0 (fails.before i (omega (arith, at)));
+                        let i : ℕ = k - (BODY_PLACE + len) in
+                        let here : BODY_PLACE + len + i ≡ k = omega arith in
+                        sym (ap (λ n. get_or bs n 0) here) ∙ sym (padding_at bs i (omega arith)) ∙ eqb-true (get_or (padding bs) i 0) 0 (fails.before i (omega (arith, at)));
                   } in
                   record {
                     looked_at = omega (arith, own);
                     first = first_late p (omega arith) few own;
                     before = (letter, subst (λ t. AgreesBefore form bs t letter) (sym own) (agrees letter p fits));
                     never = λ m agree.
-                        let same : length (form.bytes m.body) ≡ len = sym (length_is form (parts_of m) m.sized) ∙ agree 34 (omega (arith, own)) in
+                        let same : length (form.bytes m.body) ≡ len = sym (length_is form (parts_of m) m.sized) ∙ agree LENGTH_PLACE (omega (arith, own)) in
                         let here : get_or (padding bs) fails.at 0 ≡ 0 =
-                        get_or-drop (36 + len) bs fails.at 0 ∙ sym (ap (λ n. get_or bs n 0) at) ∙ sym (agree p (omega arith)) ∙ in_rest m p (omega arith) few in
+                        padding_at bs fails.at (omega arith) ∙ sym (ap (λ n. get_or bs n 0) at) ∙ sym (agree p (omega arith)) ∙ in_rest m p (omega arith) few in
                         eqb-false (get_or (padding bs) fails.at 0) 0 fails.fails here;
                   }
 
@@ -447,11 +449,11 @@ module _ {B : Type 0} (form : Form B) (laws : Lawful form) where
           (λ i. ⊎_elim
           (λ j. subst (FirstWrongByte form bs) (sym j.1) (blank_wrong seat some h.0 i.0 (eqb-false (zero_byte bs) 0 j.0)))
           (λ j. some_none q (sym j.1))
-          (failed (eqb (zero_byte bs) 0) 35 None q i.1))
-          (failed (form.has_length (kind_byte bs) len) 34 _ q h.1))
-          (failed (form.has_kind (kind_byte bs)) 33 _ q g.1))
+          (failed (eqb (zero_byte bs) 0) ZERO_PLACE None q i.1))
+          (failed (form.has_length (kind_byte bs) len) LENGTH_PLACE _ q h.1))
+          (failed (form.has_kind (kind_byte bs)) KIND_PLACE _ q g.1))
           (failed (ltb 0 (number_16 (2 * s) bs)) (2 * s) _ q f.1))
-          (failed (ltb s 16) 32 _ q e)
+          (failed (ltb s 16) POSTER_PLACE _ q e)
 
       pub first_wrong_byte : wrong_byte form bs ≡ Some p → FirstWrongByte form bs p
       first_wrong_byte e = ⊎_elim
@@ -466,7 +468,7 @@ module _ {B : Type 0} (form : Form B) (laws : Lawful form) where
           subst (FirstWrongByte form bs) (sym g.2)
           (body_wrong h.seated h.counted h.kind h.sized h.blank g.0 (subst (λ n. FirstWrong form (kind_byte bs) n (body_part bs) g.0) long' wrong)))
           (λ g. rest_wrong h.seated h.counted h.kind h.sized h.blank g.0 p g.1)
-          (first_some 36 (form.wrong (kind_byte bs) (body_part bs)) _ p f.1))
+          (first_some BODY_PLACE (form.wrong (kind_byte bs) (body_part bs)) _ p f.1))
           (first_some 0 (wrong_header form bs) _ p e)
 
   -- the byte that is named of the record at the front of some bytes

@@ -2,6 +2,8 @@
 use Rattle.std.proofs.Common.{◌≡◌, ℕ, ◌+◌, ◌-◌, ◌*◌, ◌<◌, ◌≤◌, true, false, leb, List, length, get_or, take, Some, None, Ok, Err, Option, Result, sym, refl, ap, ◌∙◌, subst, arith}
 use Rattle.std.proofs.lemmas.List.{length-take-le}
 use Rattle.std.proofs.lemmas.Bool.{le-leb, lt-leb, leb-true}
+use Rattle.records.specs.declared.record.TheConstants.{BODY_PLACE, RECORD_SIZE}
+use Rattle.records.specs.declared.stamps.TheConstants.{STAMP_SIZE}
 use Rattle.letters.specs.declared.letter.Letter.{Letter}
 use Rattle.letters.specs.Checks.{first_failing}
 use Rattle.letters.specs.declared.body.TheConstants.{BODY_SPACE}
@@ -11,7 +13,6 @@ use Rattle.letters.specs.Letters.{parts, parts_of, letter_check}
 use Rattle.letters.specs.Numbers.{number_16}
 use Rattle.letters.specs.ChecksLemmas.{passed, some_none}
 use Rattle.letters.proofs.Passing.{letter_passes}
-use Rattle.records.specs.declared.record.TheConstants.{RECORD_SIZE}
 use Rattle.records.specs.Records.{body_part, first_of, is_zero, kind_byte, length_byte, padding, parts_record, parts_written, poster_byte, record_of, stamp_bytes, stamp_of, wrong_byte, wrong_front, wrong_header}
 use Rattle.records.specs.declared.fault.Fault.{Fault}
 use Rattle.records.specs.Faults.{told_fault}
@@ -33,7 +34,7 @@ read_ok (Ok done) e = refl
 read_ok (Err fault) e = let z : ◌≡◌ {A = ℕ} 0 1 = cc in absurd (omega arith)
 
 module _ {B : Type 0} (form : Form B) (laws : Lawful form) where
-  -- a letter's record has 96 bytes
+  -- a letter's record is as long as all are
   pub record_long : (m : Letter B) → length (record_of form m) ≡ RECORD_SIZE
   record_long m = omega (arith, parts-length form (parts_of m) laws, m.sized)
 
@@ -60,18 +61,18 @@ module _ {B : Type 0} (form : Form B) (laws : Lawful form) where
       let head : wrong_header form bs ≡ None = header_right form bs header in
       let inner : form.wrong (kind_byte bs) (body_part bs) ≡ None =
       ap (λ k. form.wrong k (body_part bs)) kind ∙ ap (form.wrong (form.kind m.body)) (body_is form p m.sized) ∙ laws.right m.body in
-      let pad : first_failing is_zero (36 + length_byte bs) (padding bs) ≡ None =
-      ap (first_failing is_zero (36 + length_byte bs)) (padding_is form p m.sized)
-      ∙ zeros_right (36 + length_byte bs) (BODY_SPACE - length (form.bytes m.body)) in
+      let pad : first_failing is_zero (BODY_PLACE + length_byte bs) (padding bs) ≡ None =
+      ap (first_failing is_zero (BODY_PLACE + length_byte bs)) (padding_is form p m.sized)
+      ∙ zeros_right (BODY_PLACE + length_byte bs) (BODY_SPACE - length (form.bytes m.body)) in
       rw (head, inner, pad)
 
   -- bytes in which nothing is wrong are the record of the parts that are read from them
   pub read_back : (p : Parts B) (bs : List ℕ) → length bs ≡ RECORD_SIZE → wrong_byte form bs ≡ None
-      → stamp_bytes p.stamp ≡ take 32 bs → p.poster ≡ poster_byte bs → form.kind p.body ≡ kind_byte bs
+      → stamp_bytes p.stamp ≡ take STAMP_SIZE bs → p.poster ≡ poster_byte bs → form.kind p.body ≡ kind_byte bs
       → form.bytes p.body ≡ body_part bs → parts_record form p ≡ bs
   read_back p bs size right stamp poster kind body =
       let head = first_none 0 (wrong_header form bs) _ right in
-      let inner = first_none 36 (form.wrong (kind_byte bs) (body_part bs)) _ head.1 in
+      let inner = first_none BODY_PLACE (form.wrong (kind_byte bs) (body_part bs)) _ head.1 in
       let header : RightHeader form bs = right_header form bs head.0 in
       let short : length_byte bs ≤ BODY_SPACE = laws.short (kind_byte bs) (length_byte bs) header.sized in
       record_back form p bs size header short stamp poster kind body inner.1
@@ -80,7 +81,7 @@ module _ {B : Type 0} (form : Form B) (laws : Lawful form) where
   pub written_back : (p : Parts B) → length p.stamp.entries ≡ 16 → parts_written form (parts_record form p) ≡ p
   written_back p sixteen =
       let bs : List ℕ = parts_record form p in
-      let stamp : stamp_of (take 32 bs) ≡ p.stamp =
+      let stamp : stamp_of (take STAMP_SIZE bs) ≡ p.stamp =
       ap stamp_of (stamp_is form p sixteen) ∙ ap (λ l. record { entries = l }) (paired_written p.stamp.entries) in
       let poster = poster_is form p sixteen in
       let body : form.body (kind_byte bs) (body_part bs) ≡ p.body =
@@ -96,7 +97,7 @@ module _ {B : Type 0} (form : Form B) (laws : Lawful form) where
       let header : RightHeader form bs = right_header form bs (first_none 0 (wrong_header form bs) _ right).0 in
       let seat : poster_byte bs ≡ p.poster = sym (ap poster_byte e) ∙ poster_is form p sixteen in
       let seated : p.poster < 16 = omega (arith, header.seated) in
-      let stamp : stamp_bytes p.stamp ≡ take 32 bs = sym (stamp_is form p sixteen) ∙ ap (take 32) e in
+      let stamp : stamp_bytes p.stamp ≡ take STAMP_SIZE bs = sym (stamp_is form p sixteen) ∙ ap (take STAMP_SIZE) e in
       let number : number_16 (2 * p.poster) bs ≡ get_or p.stamp.entries p.poster 0 =
       number_front p.stamp.entries bs p.poster stamp (omega arith) seated in
       let counted : 0 < number_16 (2 * p.poster) bs = subst (λ s. 0 < number_16 (2 * s) bs) seat header.counted in
@@ -109,7 +110,7 @@ module _ {B : Type 0} (form : Form B) (laws : Lawful form) where
       let made = made_letter p bs size right e in
       ap letter_check made.1 ∙ letter_passes made.0
 
-  -- of 96 bytes and more, the first wrong byte is that of the record in front
+  -- of bytes enough for a record, the first wrong one is that of the record in front
   pub front_whole : (bs : List ℕ) → RECORD_SIZE ≤ length bs → wrong_front form bs ≡ wrong_byte form (take RECORD_SIZE bs)
   front_whole bs long = let e : leb RECORD_SIZE (length bs) ≡ true = le-leb RECORD_SIZE (length bs) long in rw e
 

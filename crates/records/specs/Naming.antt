@@ -21,7 +21,7 @@ module _ {B : Type 0} (form : Form B) where
   abbrev pub AgreesBefore : List ℕ → ℕ → Letter B → Type 0
   AgreesBefore bs t m = (k : ℕ) → turn bs k < t → slice_index (record_of form m) k ≡ slice_index bs k
 
-  -- The byte is the first wrong one of 96: the record of some letter agrees with all that is looked at before its turn, and no
+  -- The byte is the first wrong one of a record: the record of some letter agrees with all that is looked at before its turn, and no
   -- letter's agrees with that and with what is looked at in its turn. Of two bytes that are looked at together it is the first.
   pub record FirstWrongByte (bs : List ℕ) (byte : ℕ) : Type 0 where
     pub looked_at : turn bs byte < RECORD_SIZE

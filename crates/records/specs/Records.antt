@@ -1,4 +1,4 @@
--- A letter's record: 32 bytes of stamp, the poster, the kind, the body's length, a zero, and 60 bytes for the body.
+-- A letter's record: the stamp, the poster, the kind, the body's length, a zero, and the space for the body.
 use Rattle.std.specs.Prelude.{ℕ, ◌+◌, ◌*◌, Bool, List, [], ◌∷◌, ◌++◌, length, take, drop, Some, None, Option, ◌==◌, nat_le, nat_lt, slice_index}
 use Rattle.std.specs.List.{flat_map}
 use Rattle.letters.specs.declared.letter.Letter.{Letter}
@@ -6,7 +6,7 @@ use Rattle.letters.specs.declared.stamp.Stamp.{Stamp}
 use Rattle.letters.specs.Checks.{check, first_failing}
 use Rattle.letters.specs.declared.body.TheConstants.{BODY_SPACE}
 use Rattle.letters.specs.Forms.{Form}
-use Rattle.records.specs.declared.record.TheConstants.{BODY_PLACE, KIND_PLACE, LENGTH_PLACE, POSTER_PLACE, RECORD_SIZE, ZERO_PLACE}
+use Rattle.records.specs.declared.record.TheConstants.{BODY_END, BODY_PLACE, KIND_PLACE, LENGTH_PLACE, POSTER_PLACE, RECORD_SIZE, ZERO_PLACE}
 use Rattle.records.specs.declared.stamps.TheConstants.{STAMP_SIZE}
 use Rattle.letters.specs.declared.parts.Parts.{Parts}
 use Rattle.letters.specs.Letters.{parts, parts_of}
@@ -43,9 +43,9 @@ zero_byte bs = slice_index bs ZERO_PLACE
 abbrev pub body_part : List ℕ → List ℕ
 body_part bs = take (length_byte bs) (drop BODY_PLACE bs)
 
--- what stands after the body
+-- what stands after the body, to the end of its space
 abbrev pub padding : List ℕ → List ℕ
-padding bs = drop (BODY_PLACE + length_byte bs) bs
+padding bs = drop (BODY_PLACE + length_byte bs) (take BODY_END bs)
 
 abbrev pub is_zero : ℕ → Bool
 is_zero b = b == 0
@@ -79,7 +79,7 @@ module _ {B : Type 0} (form : Form B) where
       (check (form.has_length (kind_byte bs) (length_byte bs)) LENGTH_PLACE
       (check (zero_byte bs == 0) ZERO_PLACE None))))
 
-  -- the first wrong byte of 96, in the order of the checks: the header, the body, the padding
+  -- the first wrong byte of a whole record, in the order of the checks: the header, the body, the padding
   abbrev pub wrong_byte : List ℕ → Option ℕ
   wrong_byte bs =
       first_of 0 (wrong_header bs)

@@ -1,4 +1,4 @@
-// Letters as records of 96 bytes, and files of them.
+// Letters as records, and files of them.
 #![tactic(auto)]
 
 mod bytes;

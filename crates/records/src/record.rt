@@ -1,5 +1,5 @@
 // One letter as a record.
-ghost use Rattle.std.specs.Prelude.{◌≡◌, ◌≤◌, not, ◌++◌, drop, None};
+ghost use Rattle.std.specs.Prelude.{◌≡◌, ◌≤◌, not, ◌++◌, take, drop, None};
 ghost use Rattle.std.specs.List.{position};
 ghost use Rattle.letters.specs.Checks.{first_failing};
 ghost use Rattle.records.specs.Faults.{told_fault};
@@ -13,19 +13,22 @@ use letters::body::{BODY_SPACE, Body};
 use letters::letter::Letter;
 use letters::parts::Parts;
 
+// What stands where behind the stamp: the poster, the body's kind and length, a zero, and the space for the body.
+pub const POSTER_PLACE: usize = STAMP_SIZE;
+
+pub const KIND_PLACE: usize = POSTER_PLACE + 1;
+
+pub const LENGTH_PLACE: usize = KIND_PLACE + 1;
+
+const ZERO_PLACE: usize = LENGTH_PLACE + 1;
+
+pub const BODY_PLACE: usize = ZERO_PLACE + 1;
+
+// Where the body's space ends.
+const BODY_END: usize = BODY_PLACE + BODY_SPACE;
+
 // How many bytes a record has.
-pub const RECORD_SIZE: usize = 96;
-
-// What stands where behind the stamp: the poster, the body's kind and length, a zero, and the body from its first byte on.
-const POSTER_PLACE: usize = 32;
-
-const KIND_PLACE: usize = 33;
-
-const LENGTH_PLACE: usize = 34;
-
-const ZERO_PLACE: usize = 35;
-
-const BODY_PLACE: usize = 36;
+pub const RECORD_SIZE: usize = BODY_END;
 
 // The letter's record.
 pub fn to_record<B: Body>(letter: &Letter<B>) -> [u8; RECORD_SIZE]
@@ -156,12 +159,12 @@ fn wrong_header<B: Body>(bytes: &[u8; RECORD_SIZE]) -> Option<u8>
     None
 }
 
-// The first byte that is not zero, from a place on.
+// The first byte that is not zero, from a place in the body's space to its end.
 fn nonzero_from(bytes: &[u8; RECORD_SIZE], from: u8) -> Option<u8>
-    requires { from ≤ RECORD_SIZE }
-    ensures { result ≡ first_failing is_zero from (drop from bytes.now) }
+    requires { from ≤ BODY_END }
+    ensures { result ≡ first_failing is_zero from (drop from (take BODY_END bytes.now)) }
 {
-    let place = first_nonzero(&bytes[from as usize..])?;
+    let place = first_nonzero(&bytes[from as usize..BODY_END])?;
     Some(from + place as u8)
 }
 

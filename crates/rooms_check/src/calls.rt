@@ -2,6 +2,7 @@
 // stands on the one that it is in, of which it uses what is private there. Here is what a script asks for, and what it is told.
 ghost use Rattle.std.specs.Prelude.{◌+◌, ◌<◌, length};
 
+use letters::body::Body;
 use letters::job::Job;
 use letters::letter::Letter;
 use letters::letter_id::LetterId;
@@ -12,7 +13,6 @@ use letters::text::Text;
 use records::fault::Fault;
 use seats::slip::Slip;
 use seats::taken::Taken;
-use spool::stored::Stored;
 use std::alloc::AllocError;
 use std::{array, fmt, str};
 
@@ -65,7 +65,7 @@ struct ScriptSetting {
 
 // The size of a carrier, of the eight bytes at a place.
 fn size_at(bytes: &[u8; SETTING_SIZE], place: usize) -> Size
-    requires { place + 7 < 32 }
+    requires { place + 7 < SETTING_SIZE }
 {
     Size {
         seats: bytes[place],
@@ -205,8 +205,10 @@ impl From<u8> for Asked {
     }
 }
 
-// How many bytes a call has.
+// How many bytes a call has, and where its stamp begins.
 const CALL_SIZE: usize = 64;
+
+const STAMP_START: usize = 32;
 
 // What a call asks for, and what it brings: what it asks for tells which of this it needs.
 #[derive(Clone, Copy)]
@@ -259,15 +261,18 @@ impl From<&[u8; CALL_SIZE]> for ScriptCall {
             first: bytes[25],
             length: bytes[28],
             stamp: Stamp {
-                entries: array::from_fn(|seat| number_at(bytes, 32 + 2 * seat)),
+                entries: array::from_fn(|seat| number_at(bytes, STAMP_START + 2 * seat)),
             },
         }
     }
 }
 
+// A text's length is one byte, so this many characters are enough for each.
+const CHARACTERS: usize = 256;
+
 impl ScriptCall {
     // The characters of a text, as many as any length has.
-    fn characters(&self) -> [u8; 256] {
+    fn characters(&self) -> [u8; CHARACTERS] {
         let even = self.first;
         let odd = even.saturating_add(1);
         array::from_fn(|place| if place % 2 == 0 { even } else { odd })
@@ -319,7 +324,7 @@ fn byte_sum(bytes: &[u8]) -> u32 {
 }
 
 // A body that a script can bring, add up and print.
-trait ScriptBody: Stored {
+trait ScriptBody: Body {
     // The body that a call brings, or why there is none.
     fn brought(call: &ScriptCall) -> Result<Self, Refusal>;
 

@@ -18,18 +18,19 @@ use rooms::run;
 use seats::slip::Slip;
 use sheets::job_list::JobList;
 use spool::Spool;
+use spool::tape::ROW_SIZE;
 use std::alloc::{AllocError, Global};
 use std::io::Read;
 use std::{env, io};
 
 mod calls;
 
-// How many letters the tables and the queues have, and how many bytes the spool.
+// How many letters the tables and the queues have, and how many bytes the spool, which has place for 64.
 const PLACES: usize = 4096;
 
 const QUEUES: usize = 256;
 
-const BYTES: usize = 6272;
+const BYTES: usize = 64 * ROW_SIZE;
 
 // How the room and its carrier are made.
 #[derive(Clone, Copy)]

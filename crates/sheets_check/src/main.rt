@@ -1,24 +1,23 @@
 // Reads logs, draws them up or enters them, and prints the sheets: what a model in another language is compared with.
 //
-// Standard input is blocks of 96 bytes. A letter is laid out as in a letter record. A block with 255 at byte 32 draws up
-// the letters since the last such block, and one with 254 there enters them on the sheet as it stands; byte 33 of it says
-// which sheet: 1 the timeline, 2 the job list.
+// Standard input is blocks, each as long as a letter record. A letter is laid out as in one. A block with 255 in the place of
+// the poster draws up the letters since the last such block, and one with 254 there enters them on the sheet as it stands; the
+// place of the kind says which sheet: 1 the timeline, 2 the job list.
 #![tactic(auto)]
 
-use letters::body::Body;
+use letters::body::{BODY_SPACE, Body};
 use letters::job::Job;
 use letters::letter::Letter;
 use letters::parts::Parts;
 use letters::refusal::Refusal;
 use letters::stamp::Stamp;
 use letters::text::Text;
+use records::record::{BODY_PLACE, KIND_PLACE, LENGTH_PLACE, POSTER_PLACE, RECORD_SIZE};
 use sheets::job_list::JobList;
 use sheets::sheet::{Sheet, draw_up};
 use sheets::timeline::Timeline;
 use std::io::Read;
 use std::{array, io};
-
-const BLOCK: usize = 96;
 
 // What a block asks for that holds no letter.
 enum Order {
@@ -28,8 +27,8 @@ enum Order {
 
 impl Order {
     // No conversion trait: a block may name no order, which is no error, and the `Option` says so.
-    fn of(block: &[u8; BLOCK]) -> Option<Order> {
-        match block[32] {
+    fn of(block: &[u8; RECORD_SIZE]) -> Option<Order> {
+        match block[POSTER_PLACE] {
             255 => Some(Order::DrawUp),
             254 => Some(Order::Enter),
             _ => None,
@@ -38,28 +37,32 @@ impl Order {
 }
 
 // The text that a block says.
-fn text_said(block: &[u8; BLOCK]) -> Result<Text, Refusal> {
-    let len = block[34] as usize;
-    if len > 60 {
+fn text_said(block: &[u8; RECORD_SIZE]) -> Result<Text, Refusal> {
+    let len = block[LENGTH_PLACE] as usize;
+    if len > BODY_SPACE {
         return Err(Refusal::BadRecord);
     }
-    Text::new(&block[36..36 + len])
+    Text::new(&block[BODY_PLACE..BODY_PLACE + len])
 }
 
 // The job that a block says.
-fn job_said(block: &[u8; BLOCK]) -> Result<Job, Refusal> {
-    if block[36] == 1 {
-        return Ok(Job::Add(u32::from_le_bytes([block[37], block[38], block[39], block[40]])));
+fn job_said(block: &[u8; RECORD_SIZE]) -> Result<Job, Refusal> {
+    let body = &block[BODY_PLACE..];
+    if body[0] == 1 {
+        return Ok(Job::Add(u32::from_le_bytes([body[1], body[2], body[3], body[4]])));
     }
-    Job::strike(block[37], u16::from_le_bytes([block[38], block[39]]))
+    Job::strike(body[1], u16::from_le_bytes([body[2], body[3]]))
 }
 
 // The letter of a block, with the body that it says.
-fn letter_of<B: Body>(block: &[u8; BLOCK], body: Result<B, Refusal>) -> Result<Letter<B>, Refusal> {
+fn letter_of<B: Body>(
+    block: &[u8; RECORD_SIZE],
+    body: Result<B, Refusal>,
+) -> Result<Letter<B>, Refusal> {
     let entries = array::from_fn(|seat| u16::from_le_bytes([block[2 * seat], block[2 * seat + 1]]));
     Letter::new(Parts {
         stamp: Stamp { entries },
-        poster: block[32],
+        poster: block[POSTER_PLACE],
         body: body?,
     })
 }
@@ -121,7 +124,7 @@ fn print_codes(rt: &HostRuntime, list: &JobList, log: &[Letter<Job>]) -> io::Res
 fn keep<B: Body>(
     rt: &HostRuntime,
     log: &mut Vec<Letter<B>>,
-    block: &[u8; BLOCK],
+    block: &[u8; RECORD_SIZE],
     body: Result<B, Refusal>,
 ) -> io::Result<()> {
     match letter_of(block, body) {
@@ -139,9 +142,9 @@ fn main(rt: HostRuntime) -> io::Result<()> {
     let mut list = JobList::new();
     let mut texts: Vec<Letter<Text>> = Vec::new(heap);
     let mut jobs: Vec<Letter<Job>> = Vec::new(heap);
-    let (blocks, _) = input.as_slice().as_chunks::<BLOCK>();
+    let (blocks, _) = input.as_slice().as_chunks::<RECORD_SIZE>();
     for block in blocks {
-        match (Order::of(block), block[33]) {
+        match (Order::of(block), block[KIND_PLACE]) {
             (None, 1) => keep(&rt, &mut texts, block, text_said(block))?,
             (None, _) => keep(&rt, &mut jobs, block, job_said(block))?,
             (Some(order), 1) => {

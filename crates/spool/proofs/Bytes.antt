@@ -1,4 +1,4 @@
--- Rows of 98 bytes and their parts.
+-- Rows and their parts.
 use Rattle.std.proofs.Common.{◌≡◌, ℕ, ◌+◌, ◌-◌, ◌*◌, ◌<◌, ◌≤◌, List, ◌++◌, length, get_or, take, drop, set, sym, ap, ◌∙◌, arith, append_assoc, length-append, length-drop, length-set}
 use Rattle.std.proofs.lemmas.List.{get_or-take, get_or-drop, take-take, length-take-le, ext_get_or, take-set-le, drop-set-add, get_or-set_same, get_or-set_other, drop-drop}
 use Rattle.carriers.specs.Places.{OnlyAt}

@@ -1,4 +1,4 @@
--- Rows of 98 bytes: a letter's record and a mask of the seats that have yet to draw it.
+-- Rows: each a letter's record, and a mask of the seats that have yet to draw it.
 use Rattle.std.specs.Prelude.{ℕ, zero, suc, ◌+◌, ◌*◌, Bool, cond, List, [], ◌∷◌, ◌++◌, take, Ok, Result, nat_le}
 use Rattle.letters.specs.Numbers.{number_16}
 use Rattle.letters.specs.Refusals.{Reason, unless}

@@ -15,15 +15,15 @@ ghost use Rattle.spool.specs.Spools.{AddsRow, DrawsRow, StandsAt, StrikesRow, pl
 
 use crate::Spool;
 use crate::masks::{all_but, is_done, marks};
-use crate::stored::Stored;
 use crate::tape::{ROW_SIZE, Tape, mask_of};
 use carriers::carrier::Carrier;
+use letters::body::Body;
 use letters::letter::Letter;
 use letters::parts::Parts;
 use letters::refusal::Refusal;
 use std::marker::PhantomData;
 
-impl<'a, B: Stored> Spool<'a, B> {
+impl<'a, B: Body> Spool<'a, B> {
     // Whether a spool for so many seats can be made of the bytes: 6, then 5.
     pub fn check(buffer: &[u8], seats: u8) -> Result<(), Refusal>
         ensures { told (λ u. u) result ≡ spool_answer seats (length buffer.now) }
@@ -104,7 +104,7 @@ fn count_marked(rows: &[[u8; ROW_SIZE]], seat: u8) -> usize
     rows.iter().filter(|row| marks(mask_of(row), seat)).count()
 }
 
-impl<'a, B: Stored> Carrier for Spool<'a, B> {
+impl<'a, B: Body> Carrier for Spool<'a, B> {
     type Body = B;
 
     ghost meaning = { λ s. spool_of B.form B.blank s };

@@ -10,8 +10,7 @@ use std::marker::PhantomData;
 
 pub mod carrying;
 mod masks;
-pub mod stored;
-mod tape;
+pub mod tape;
 
 // The first rows of the buffer hold the letters that wait, in the order of their puts.
 // The buffer is lent, so no vector stands for the rows and their count.

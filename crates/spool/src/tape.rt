@@ -10,14 +10,13 @@ ghost use Rattle.records.specs.Records.{record_of};
 ghost use Rattle.spool.specs.Decoding.{letter_of};
 ghost use Rattle.spool.specs.Rows.{mask_of, record_part, row_at};
 
-use crate::stored::Stored;
 use letters::body::Body;
 use letters::letter::Letter;
 use letters::parts::Parts;
 use records::record::{RECORD_SIZE, read_record, to_record};
 
 // How many bytes a row has: a record and a mask.
-pub(crate) const ROW_SIZE: usize = RECORD_SIZE + 2;
+pub const ROW_SIZE: usize = RECORD_SIZE + 2;
 
 #[derive(Drop)]
 pub(crate) struct Tape<'a> {
@@ -58,7 +57,7 @@ impl<'a> Tape<'a> {
     }
 
     // Fills the lent parts with those of a row's letter.
-    pub(crate) fn read<B: Stored>(&self, row: usize, parts: &mut Parts<B>)
+    pub(crate) fn read<B: Body>(&self, row: usize, parts: &mut Parts<B>)
         requires { row * ROW_SIZE + ROW_SIZE ≤ length self.now.bytes.now }
         ensures { parts.new ≡ parts_of (letter_of B.form B.blank (record_part (row_at self.now.bytes.now row))) }
     {
@@ -103,7 +102,7 @@ fn write_letter<B: Body>(letter: &Letter<B>, into: &mut [u8])
 }
 
 // Fills the lent parts with those of the letter that the bytes of a record stand for.
-fn read_letter<B: Stored>(bytes: &[u8], parts: &mut Parts<B>)
+fn read_letter<B: Body>(bytes: &[u8], parts: &mut Parts<B>)
     requires { length bytes.now ≡ RECORD_SIZE }
     ensures { parts.new ≡ parts_of (letter_of B.form B.blank bytes.now) }
 {

@@ -99,14 +99,14 @@ impl From<&[u8; 10]> for Setting {
 impl Setting {
     // How many letters are brought.
     fn letters_brought(&self) -> usize
-        ensures { result ≤ 64 }
+        ensures { result ≤ LETTERS }
     {
         self.letters.min(LETTERS)
     }
 
     // How many bytes are brought.
     fn bytes_brought(&self) -> usize
-        ensures { result ≤ 1024 }
+        ensures { result ≤ BYTES }
     {
         self.bytes.min(BYTES)
     }

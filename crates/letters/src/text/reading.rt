@@ -4,7 +4,7 @@ ghost use Rattle.std.specs.List.{position};
 ghost use Rattle.letters.specs.Characters.{printable, text_wrong};
 ghost use Rattle.letters.specs.Numbers.{padded};
 ghost use Rattle.letters.specs.Refusals.{told};
-ghost use Rattle.letters.specs.Texts.{text_answer, text_bytes, text_form};
+ghost use Rattle.letters.specs.Texts.{text_answer, text_bytes, text_form, text_of};
 ghost use Rattle.letters.specs.TextsLemmas.{text_lawful};
 
 use crate::body::{BODY_SPACE, Body, padded};
@@ -75,11 +75,13 @@ fn first_wrong(bytes: &[u8]) -> Option<u8>
 fn unprintable(bytes: &[u8]) -> Option<usize>
     ensures { result ≡ position (λ b. not (printable b)) bytes.now }
 {
-    bytes.iter().position(|b| !(32..=126).contains(b))
+    bytes.iter().position(|b| !(b' '..=b'~').contains(b))
 }
 
 impl Body for Text {
     ghost form = { text_form };
+
+    ghost blank = { text_of [] };
 
     ghost lawful = { text_lawful };
 
@@ -109,5 +111,9 @@ impl Body for Text {
 
     fn to_bytes(&self) -> [u8; BODY_SPACE] {
         self.padded_chars()
+    }
+
+    fn make_blank() -> Text {
+        Text::default()
     }
 }

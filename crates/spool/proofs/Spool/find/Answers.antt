@@ -12,7 +12,7 @@ pub returns : goal.returns
 returns g c =
     let s = c.args.self.now in
     let b = s.tape.bytes.now in
-    let items = letters_at (letter_of g.B.Body.form g.B.Stored.blank) b in
+    let items = letters_at (letter_of g.B.Body.form g.B.Body.blank) b in
     let is = c.nth_marked.ensures in
     let within = place_within s.rows b _ c.rows.ensures items c.args.seat c.args.place _ (sym is ∙ ap (option_map (λ p. (p.0, p.1.now))) c.in_ok-row.was) in
     let q = place_found s.rows b _ c.rows.ensures items c.args.seat c.args.place within in
@@ -27,9 +27,9 @@ pub returns-in_err-row : goal.returns-in_err-row
 returns-in_err-row g c =
     let s = c.args.self.now in
     let b = s.tape.bytes.now in
-    let items = letters_at (letter_of g.B.Body.form g.B.Stored.blank) b in
-    let past : waits_at (spool_of g.B.Body.form g.B.Stored.blank s) c.args.seat ≤ c.args.place = ⊎_elim
+    let items = letters_at (letter_of g.B.Body.form g.B.Body.blank) b in
+    let past : waits_at (spool_of g.B.Body.form g.B.Body.blank s) c.args.seat ≤ c.args.place = ⊎_elim
     (λ lt. let q = place_found s.rows b _ c.rows.ensures items c.args.seat c.args.place lt in absurd (none_read (λ p. (p.0, p.1.now)) c.nth_marked.result q.0 (c.nth_marked.ensures ∙ q.1) c.in_err-row.was))
     (λ ge. omega (arith, ge))
     (cases_lt c.args.place (length (picks (marks_at b c.args.seat) items s.rows))) in
-    subst (StandsAt g.B.Body.form g.B.Stored.blank s c.args.seat c.args.place) (sym c.from_residual.ensures) past
+    subst (StandsAt g.B.Body.form g.B.Body.blank s c.args.seat c.args.place) (sym c.from_residual.ensures) past

@@ -18,7 +18,7 @@ returns-clause-leaves g c =
     let seat = c.args.seat in
     let place = c.args.place in
     let form = g.B.Body.form in
-    let blank = g.B.Stored.blank in
+    let blank = g.B.Body.blank in
     let read = letter_of form blank in
     let f = subst (StandsAt form blank s seat place) c.in-Some.is c.find.ensures in
     let m = spool_of form blank s in
@@ -36,10 +36,10 @@ returns-clause-answer g c =
     let seat = c.args.seat in
     let place = c.args.place in
     let form = g.B.Body.form in
-    let blank = g.B.Stored.blank in
+    let blank = g.B.Body.blank in
     let f = subst (StandsAt form blank s seat place) c.in-Some.is c.find.ensures in
     let below = stands_below form blank s seat place c.in-Some.row f in
     sym (draw_ok (spool_of form blank s) seat place (search rules) (omega (arith, below, f.3)))
 
 pub returns-clause-row : goal.returns-clause-row
-returns-clause-row g c = (c.in-Some.row, subst (StandsAt g.B.Body.form g.B.Stored.blank c.args.self.now c.args.seat c.args.place) c.in-Some.is c.find.ensures, c.strike.ensures.row)
+returns-clause-row g c = (c.in-Some.row, subst (StandsAt g.B.Body.form g.B.Body.blank c.args.self.now c.args.seat c.args.place) c.in-Some.is c.find.ensures, c.strike.ensures.row)

@@ -11,4 +11,4 @@ returns g c =
     let b = c.args.self.now.bytes.now in
     let at = c.args.row * ROW_SIZE in
     let n : at + RECORD_SIZE - at ≡ RECORD_SIZE = omega arith in
-    c.read_letter.ensures ∙ ap (λ l. parts_of (letter_of g.B.Body.form g.B.Stored.blank l)) (ap (λ k. take k (drop at b)) n ∙ sym (record_at b c.args.row))
+    c.read_letter.ensures ∙ ap (λ l. parts_of (letter_of g.B.Body.form g.B.Body.blank l)) (ap (λ k. take k (drop at b)) n ∙ sym (record_at b c.args.row))
