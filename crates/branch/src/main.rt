@@ -20,7 +20,7 @@ use chunks::fill;
 use letters::job::Job;
 use letters::letter::Letter;
 use rooms::draft::Draft;
-use sheets::job_list::JobList;
+use sheet_kinds::job_list::JobList;
 use sheets::sheet::Sheet;
 use std::alloc::Global;
 use std::env::{Env, FillError};

@@ -10,8 +10,8 @@ use Rattle.letters.specs.Letters.{entry_at}
 use Rattle.letters.specs.Order.{covers, ready, side_by_side}
 use Rattle.letters.specs.Refusals.{Reason}
 use Rattle.rooms.specs.Drafts.{DraftState, drafted, enrol_answer, enrol_check, enrolled}
-use Rattle.sheets.specs.declared.open_job.OpenJob.{OpenJob}
-use Rattle.sheets.specs.JobLists.{job_does, open_job}
+use Rattle.sheet_kinds.specs.declared.open_job.OpenJob.{OpenJob}
+use Rattle.sheet_kinds.specs.JobLists.{job_does, open_job}
 use Rattle.sheets.specs.Pages.{page_count}
 use Rattle.spool.specs.Masks.{all_but, full, seats_marked}
 use Rattle.spool.specs.Rows.{row_fits, spool_answer}

@@ -16,7 +16,7 @@ use rooms::draft::Draft;
 use rooms::room::Room;
 use rooms::run;
 use seats::slip::Slip;
-use sheets::job_list::JobList;
+use sheet_kinds::job_list::JobList;
 use spool::Spool;
 use spool::tape::ROW_SIZE;
 use std::alloc::{AllocError, Global};

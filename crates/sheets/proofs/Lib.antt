@@ -3,7 +3,6 @@ pub mod Sheets
 pub mod Scans
 pub mod Inserts
 pub mod Orders
-pub mod Jobs
-pub mod Closing
-pub mod Opening
-pub mod Codes
+pub mod Rising
+pub mod Removing
+pub mod Replacing

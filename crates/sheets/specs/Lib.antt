@@ -1,11 +1,7 @@
 pub mod Pages
 pub mod Sheets
 pub mod Placing
-pub mod RowOrder
-pub mod Timelines
-pub mod OpenJobs
-pub mod JobLists
-pub mod JobSwaps
+pub mod OrderLaws
 pub mod Beside
 pub mod Filters
 pub mod Rows

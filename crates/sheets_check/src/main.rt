@@ -13,9 +13,9 @@ use letters::refusal::Refusal;
 use letters::stamp::Stamp;
 use letters::text::Text;
 use records::record::{BODY_PLACE, KIND_PLACE, LENGTH_PLACE, POSTER_PLACE, RECORD_SIZE};
-use sheets::job_list::JobList;
+use sheet_kinds::job_list::JobList;
+use sheet_kinds::timeline::Timeline;
 use sheets::sheet::{Sheet, draw_up};
-use sheets::timeline::Timeline;
 use std::io::Read;
 use std::{array, io};
 

@@ -6,9 +6,9 @@ use letters::letter::Letter;
 use letters::parts::Parts;
 use letters::refusal::Refusal;
 use pair::Pair;
-use sheets::job_list::JobList;
+use sheet_kinds::job_list::JobList;
+use sheet_kinds::timeline::Timeline;
 use sheets::sheet::Sheet;
-use sheets::timeline::Timeline;
 use spool::Spool;
 use std::alloc::{AllocError, Global};
 

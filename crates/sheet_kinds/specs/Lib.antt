@@ -1,0 +1,5 @@
+pub mod RowOrder
+pub mod Timelines
+pub mod OpenJobs
+pub mod JobLists
+pub mod JobSwaps
