@@ -6,9 +6,8 @@ ghost use Rattle.std.specs.Io.KnownBytes.{Appends};
 ghost use Rattle.carriers.specs.Lines.{lines_of};
 ghost use Rattle.lives.specs.Worked.{Worked};
 ghost use Rattle.branch.specs.Desks.{JustOpened, all_log_lines, standing};
+ghost use Rattle.branch.specs.Driving.{DeskPrint};
 ghost use Rattle.branch.specs.Keeping.{Finished};
-ghost use Rattle.branch.specs.Runs.{Printed};
-ghost use Rattle.branch.specs.Turns.{Turn};
 ghost use Rattle.branch.specs.declared.failure.Failure.TheVariants.{Usage};
 
 use crate::desk::Desk;
@@ -45,7 +44,7 @@ fn drive<C: Carrier<Body = Job>, R: Read, W: Write>(
     output: &mut W,
     desk: &mut Desk<'_, '_, C>,
 ) -> io::Result<()>
-    ensures { OnOk result (Printed (Turn C.Carrier.meaning C.Carrier.puts C.Carrier.rests) (R.remaining input.old) desk.old (W.contents output.old) (W.contents output.new) desk.new) }
+    ensures { OnOk result (DeskPrint C.Carrier (R.remaining input.old) desk.old (W.contents output.old) (W.contents output.new) desk.new) }
 {
     let mut held = [0; CHUNK];
     let mut lines = String::new(alloc);

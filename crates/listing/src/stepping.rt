@@ -2,8 +2,7 @@
 ghost use Rattle.std.specs.Prelude.{◌≡◌, ◌++◌, IfOk, OnOk, string_bytes};
 ghost use Rattle.records.specs.Faults.{told_fault};
 ghost use Rattle.records.specs.Readers.{ahead, found, next_answer};
-ghost use Rattle.listing.specs.Lines.{step_line};
-ghost use Rattle.listing.specs.Stepping.{AskedOnce};
+ghost use Rattle.listing.specs.Stepping.{AskedOnce, next_line};
 
 use crate::line::{Say, add_fault, add_letter};
 use letters::parts::Parts;
@@ -20,7 +19,7 @@ pub fn add_next<B: Say>(
 ) -> Result<Result<Option<usize>, Fault>, AllocError>
     ensures answer { IfOk result (λ read. told_fault read ≡ next_answer reader.old.index (found B.form (ahead reader.old))) }
     ensures reads { AskedOnce B.form reader.old reader.new parts.old parts.new result }
-    ensures line { OnOk result (string_bytes line.new ≡ string_bytes line.old ++ step_line B.form B.says index (ahead reader.old) (found B.form (ahead reader.old))) }
+    ensures line { OnOk result (string_bytes line.new ≡ string_bytes line.old ++ next_line B.form B.says index reader.old) }
 {
     match reader.next(parts) {
         Ok(Some(read)) => {

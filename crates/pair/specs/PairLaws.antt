@@ -39,7 +39,7 @@ module _ {L : Type 0} where
       (λ f. subst Lawful (sym (both_alone m n _ refl f)) a)
       (cases_Bool (m.seats == n.seats))
 
--- a no leaves what a pair means, since it leaves what each of the two means
+-- a refusal leaves what a pair means, since it leaves what each of the two means
 module _ {C D L : Type 0} (mean : C → Meaning L) (mean' : D → Meaning L) (rests : C → C → Type 0) (rests' : D → D → Type 0)
     (still : (c after : C) → rests c after → mean after ≡ mean c) (still' : (d after : D) → rests' d after → mean' after ≡ mean' d) where
   pub still_both : (c c' : C) (d d' : D) → Rested rests c c' → Rested rests' d d' → both (mean c') (mean' d') ≡ both (mean c) (mean' d)

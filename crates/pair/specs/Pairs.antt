@@ -1,7 +1,11 @@
 -- What a pair of carriers holds, and when one can be made.
 use Rattle.std.specs.Prelude.{◌≡◌, ℕ, ◌-◌, ◌<◌, ◌≤◌, cond, ◌&&◌, ◌++◌, ◌⊎◌, length, Ok, Err, Result, ◌==◌}
+use Rattle.letters.specs.declared.letter.Letter.{Letter}
+use Rattle.letters.specs.declared.parts.Parts.{Parts}
+use Rattle.letters.specs.Letters.{parts_of}
 use Rattle.letters.specs.Refusals.{Reason, unless}
-use Rattle.carriers.specs.Meaning.{Drawn, Meaning}
+use Rattle.carriers.specs.declared.carrier.Carrier.{Ghosts}
+use Rattle.carriers.specs.Meaning.{DrawLeaves, Drawn, Meaning, PutLeaves}
 
 -- what the check before a pair is made answers, for two numbers of seats
 abbrev pub pair_answer : ℕ → ℕ → Result (Unit {0}) Reason
@@ -19,7 +23,7 @@ joined m n = record {
 abbrev pub both : {L : Type 0} → Meaning L → Meaning L → Meaning L
 both m n = cond (m.seats == n.seats) (joined m n) m
 
--- what a no of the pair leaves of one of the two: it is as it was, or as a no of its own leaves it, of which `rests` tells
+-- what a refusal of the pair leaves of one of the two: it is as it was, or as its own refusal leaves it, of which `rests` tells
 abbrev pub Rested : {C : Type 0} → (C → C → Type 0) → C → C → Type 0
 Rested rests c after = (after ≡ c) ⊎ rests c after
 
@@ -34,7 +38,23 @@ module _ {L : Type 0} where
       ((place < length (m.waiting seat)) × Drawn m seat place m' × (n' ≡ n))
       ⊎ ((length (m.waiting seat) ≤ place) × Drawn n seat (place - length (m.waiting seat)) n' × (m' ≡ m))
 
-  -- what a draw leaves in the two: by a no, both as they were
+  -- what a draw leaves in the two: where it is refused, both as they were
   abbrev pub DrawsOne : {E : Type 0} → Result (Unit {0}) E → Meaning L → Meaning L → ℕ → ℕ → Meaning L → Meaning L → Type 0
   DrawsOne (Ok _) m n seat place m' n' = DrawnFrom m n seat place m' n'
   DrawsOne (Err _) m n seat place m' n' = (m' ≡ m) × (n' ≡ n)
+
+module _ {C B E : Type 0} (carrier : Ghosts C B) where
+  -- what a put leaves of what a carrier means: where it is refused, all as it was
+  abbrev pub CarrierPut : Result (Unit {0}) E → C → Letter B → C → Type 0
+  CarrierPut result c m after = PutLeaves result (carrier.meaning c) m.poster m (carrier.meaning after)
+
+  -- what a draw leaves of what a carrier means, and in the lent parts: where it is refused, all as it was
+  abbrev pub CarrierDraw : Result (Unit {0}) E → C → ℕ → ℕ → C → Parts B → Parts B → Type 0
+  CarrierDraw result c seat place after lent filled =
+      DrawLeaves parts_of result (carrier.meaning c) seat place (carrier.meaning after) lent filled
+
+module _ {C D B E : Type 0} (first : Ghosts C B) (second : Ghosts D B) where
+  -- what a draw leaves of what each of the two means
+  abbrev pub OneDraw : Result (Unit {0}) E → C → D → ℕ → ℕ → C → D → Type 0
+  OneDraw result c d seat place c' d' =
+      DrawsOne result (first.meaning c) (second.meaning d) seat place (first.meaning c') (second.meaning d')

@@ -4,10 +4,9 @@
 ghost use Rattle.std.specs.Prelude.{◌≡◌, Ok, OnOk};
 ghost use Rattle.std.specs.Result.{OnErr};
 ghost use Rattle.letters.specs.Refusals.{told};
-ghost use Rattle.letters.specs.Letters.{parts_of};
-ghost use Rattle.carriers.specs.Meaning.{DrawLeaves, PutLeaves, draw_answer, put_answer};
+ghost use Rattle.carriers.specs.Meaning.{draw_answer, put_answer};
 ghost use Rattle.pair.specs.PairLaws.{lawful_both, still_both};
-ghost use Rattle.pair.specs.Pairs.{DrawsOne, OneRests, Rested, both, pair_answer};
+ghost use Rattle.pair.specs.Pairs.{CarrierDraw, CarrierPut, OneDraw, OneRests, Rested, both, pair_answer};
 
 use carriers::carrier::Carrier;
 use letters::letter::Letter;
@@ -77,13 +76,13 @@ impl<C: Carrier, D: Carrier<Body = C::Body>> Carrier for Pair<C, D> {
     }
 
     fn put(&mut self, letter: &Letter<C::Body>) -> Result<(), Refusal>
-        ensures answer { told (λ u. u) result ≡ put_answer (both (C.Carrier.meaning self.old.first) (D.Carrier.meaning self.old.second)) letter.now.poster }
-        ensures leaves { PutLeaves result (both (C.Carrier.meaning self.old.first) (D.Carrier.meaning self.old.second)) letter.now.poster letter.now (both (C.Carrier.meaning self.new.first) (D.Carrier.meaning self.new.second)) }
-        ensures once { OnOk result (C.Carrier.puts self.old.first letter.now self.new.first × D.Carrier.puts self.old.second letter.now self.new.second) }
-        ensures first { PutLeaves result (C.Carrier.meaning self.old.first) letter.now.poster letter.now (C.Carrier.meaning self.new.first) }
-        ensures second { PutLeaves result (D.Carrier.meaning self.old.second) letter.now.poster letter.now (D.Carrier.meaning self.new.second) }
+        ensures answer { told (λ u. u) result ≡ put_answer (⟦<Self as Carrier>⟧.meaning self.old) letter.now.poster }
+        ensures leaves { CarrierPut ⟦<Self as Carrier>⟧ result self.old letter.now self.new }
+        ensures once { OnOk result (⟦<Self as Carrier>⟧.puts self.old letter.now self.new) }
+        ensures first { CarrierPut C.Carrier result self.old.first letter.now self.new.first }
+        ensures second { CarrierPut D.Carrier result self.old.second letter.now self.new.second }
         ensures untouched { OnErr result (self.new ≡ self.old) }
-        ensures rests { OnErr result (Rested C.Carrier.rests self.old.first self.new.first × Rested D.Carrier.rests self.old.second self.new.second × (self.new.seats ≡ self.old.seats)) }
+        ensures rests { OnErr result (⟦<Self as Carrier>⟧.rests self.old self.new) }
     {
         let poster = letter.poster();
         if poster >= self.seats {
@@ -97,11 +96,11 @@ impl<C: Carrier, D: Carrier<Body = C::Body>> Carrier for Pair<C, D> {
     }
 
     fn draw(&mut self, seat: u8, place: u32, parts: &mut Parts<C::Body>) -> Result<(), Refusal>
-        ensures answer { told (λ u. u) result ≡ draw_answer (both (C.Carrier.meaning self.old.first) (D.Carrier.meaning self.old.second)) seat place }
-        ensures leaves { DrawLeaves parts_of result (both (C.Carrier.meaning self.old.first) (D.Carrier.meaning self.old.second)) seat place (both (C.Carrier.meaning self.new.first) (D.Carrier.meaning self.new.second)) parts.old parts.new }
-        ensures one { DrawsOne result (C.Carrier.meaning self.old.first) (D.Carrier.meaning self.old.second) seat place (C.Carrier.meaning self.new.first) (D.Carrier.meaning self.new.second) }
+        ensures answer { told (λ u. u) result ≡ draw_answer (⟦<Self as Carrier>⟧.meaning self.old) seat place }
+        ensures leaves { CarrierDraw ⟦<Self as Carrier>⟧ result self.old seat place self.new parts.old parts.new }
+        ensures one { OneDraw C.Carrier D.Carrier result self.old.first self.old.second seat place self.new.first self.new.second }
         ensures asked { OnErr result (OneRests C.Carrier.rests D.Carrier.rests self.old.first self.new.first self.old.second self.new.second) }
-        ensures rests { OnErr result (Rested C.Carrier.rests self.old.first self.new.first × Rested D.Carrier.rests self.old.second self.new.second × (self.new.seats ≡ self.old.seats)) }
+        ensures rests { OnErr result (⟦<Self as Carrier>⟧.rests self.old self.new) }
     {
         let ahead = self.first.waits(seat);
         // A place of 2^32 - 1 is below no answer of `waits`, so the first refuses it for both.

@@ -1,14 +1,19 @@
 -- A step with a docket in hand, and its answer, as they stand in a trace: by the numbers of the docket.
-use Rattle.std.specs.Prelude.{Some, None, Ok, Err, Option, Result}
+use Rattle.std.specs.Prelude.{List, Some, None, Ok, Err, Option, Result}
+use Rattle.letters.specs.declared.letter.Letter.{Letter}
 use Rattle.letters.specs.Refusals.{reason}
+use Rattle.carriers.specs.declared.carrier.Carrier.{Ghosts}
 use Rattle.seats.specs.declared.slip.Slip.{Slip}
 use Rattle.lives.specs.declared.moves.Move.{Move}
 use Rattle.lives.specs.declared.moves.Move.TheVariants as moves
 use Rattle.lives.specs.declared.reply.Reply.{Reply}
 use Rattle.lives.specs.Traces as traces
+use Rattle.lives.specs.Worked.{WorksOn}
 use Rattle.rooms.specs.declared.declined.Declined.{Declined}
 use Rattle.rooms.specs.declared.docket.Docket.{Docket}
+use Rattle.rooms.specs.declared.room.Room.{Room}
 use Rattle.rooms.specs.States.{slip}
+use Rattle.rooms.specs.Working.{RoomStep, room_moment}
 
 -- what is asked
 abbrev pub move_of : {B : Type 0} → Move B Docket → Move B Slip
@@ -38,10 +43,24 @@ abbrev pub returned : Result (Reply Docket) Declined → Option Docket
 returned (Ok reply) = None
 returned (Err back) = back.docket
 
--- by a no the one that was brought comes back, and none otherwise
+-- where the step is refused, the docket that was brought comes back, and none otherwise
 abbrev pub to_return : Option Docket → traces.Answer → Option Docket
 to_return d (traces.docket slip) = None
 to_return d traces.done = None
 to_return d (traces.taken how i) = None
 to_return d (traces.showed i) = None
 to_return d (traces.refused why) = d
+
+-- C is the carrier, of which `carrier` says what it means
+module _ {C B : Type 0} (carrier : Ghosts C B) where
+  -- the step that was asked, with what it answered, and what it left of the room, its tables and its carrier
+  abbrev pub AskedStep : Move B Docket → Room → List (Letter B) → List (Letter B) → C → Result (Reply Docket) Declined
+      → Room → List (Letter B) → List (Letter B) → C → Type 0
+  AskedStep asked r logs holds c result r' logs' holds' c' =
+      RoomStep carrier (move_of asked) r logs holds c (answer_as result) r' logs' holds' c'
+
+  -- by whatever steps the room was worked before, after the step that was asked it is worked by those and this one
+  abbrev pub AskedWorksOn : Move B Docket → Room → List (Letter B) → List (Letter B) → C → Result (Reply Docket) Declined
+      → Room → List (Letter B) → List (Letter B) → C → Type 0
+  AskedWorksOn asked r logs holds c result r' logs' holds' c' =
+      WorksOn (move_of asked) (room_moment carrier r logs holds c) (answer_as result) (room_moment carrier r' logs' holds' c')

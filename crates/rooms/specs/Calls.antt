@@ -19,14 +19,14 @@ use Rattle.lives.specs.Worked.{Moment, letter_at, send_at}
 abbrev pub post_room : RoomState → Result Slip Reason → ℕ → RoomState
 post_room st answer s = after answer (λ d. posted_room st s) st
 
--- a letter that is taken off a carrier stood at its place there; by a no, the carrier is as it was
+-- a letter that is taken off a carrier stood at its place there; where the draw is refused, the carrier is as it was
 abbrev pub Draws : {L E : Type 0} → Result L E → Meaning L → ℕ → ℕ → Meaning L → Type 0
 Draws (Ok m) c s place c' = Drawn c s place c' × (m ≡ slice_index_or (c.waiting s) place m)
 Draws (Err why) c s place c' = c' ≡ c
 
--- what a step does to the carrier itself, C, of which `puts` says what one put does, and `rests` what a no of its own leaves: a
--- send puts the docket's letter once, or leaves the carrier where there is none to put; a take that does not come to draw leaves
--- it; where the carrier says no, it rests; no other step touches it
+-- what a step does to the carrier itself, C, of which `puts` says what one put does, and `rests` what a refusal of its own leaves:
+-- a send puts the docket's letter once, or leaves the carrier as it was where there is none to put; a take that is refused before
+-- it draws leaves the carrier as it was; where the carrier itself refuses, it rests; no other step touches it
 abbrev pub Carried : {B C : Type 0} → (C → Letter B → C → Type 0) → (C → C → Type 0) → Move B Slip → Moment B → C → C → Type 0
 Carried puts rests (moves.Post s body) w c c' = c' ≡ c
 Carried puts rests (moves.Send d) w c c' = PutsOnce puts rests (letter_at w d) (send_at w d) c c'

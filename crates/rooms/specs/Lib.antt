@@ -1,6 +1,7 @@
 pub mod States
 pub mod Calls
 pub mod Serving
+pub mod Working
 pub mod Reading
 pub mod Drafts
 pub mod Running

@@ -1,4 +1,4 @@
--- What the steps of a room did to the carrier itself, C, told by their trace.
+-- What the steps of a room did to the carrier itself, C, given by their trace.
 use Rattle.std.specs.Prelude.{◌≡◌, [], ◌∷◌, List, map}
 use Rattle.letters.specs.declared.letter.Letter.{Letter}
 use Rattle.letters.specs.Letters.{letter_name}

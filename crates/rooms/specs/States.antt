@@ -15,7 +15,7 @@ state r = record { number = r.terms.number; names = r.terms.names; count = r.ter
 abbrev pub slip : Docket → Slip
 slip d = record { room = d.room; seat = d.seat; number = d.number }
 
--- an answer to a docket that was brought, as its caller sees it: done, or the reason of the no
+-- an answer to a docket that was brought, as its caller sees it: done, or why it is refused
 abbrev pub spent : Result (Unit {0}) Returned → Result (Unit {0}) Reason
 spent (Ok done) = Ok done
 spent (Err back) = Err (reason back.refusal)

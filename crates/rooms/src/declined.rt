@@ -10,7 +10,7 @@ pub struct Declined {
     pub docket: Option<Docket>,
 }
 
-// Of a step that brought no docket.
+// A refused step that brought no docket.
 impl From<Refusal> for Declined {
     ghost use Rattle.std.specs.Prelude.{None};
 
@@ -24,7 +24,7 @@ impl From<Refusal> for Declined {
     }
 }
 
-// Of a step that brought one.
+// A refused step that brought one.
 impl From<Returned> for Declined {
     ghost use Rattle.std.specs.Prelude.{Some};
 

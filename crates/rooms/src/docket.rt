@@ -40,7 +40,7 @@ impl Docket {
         self.number
     }
 
-    // All three.
+    // The room, the seat and the number, which are no docket by themselves.
     pub fn slip(&self) -> Slip
         ensures { result ≡ slip self.now }
     {
@@ -52,7 +52,7 @@ impl Docket {
         }
     }
 
-    // The docket of these numbers. It is no `From`, and stays within the crate: outside it nobody can make a docket.
+    // The docket of these numbers. A public `From` would let any caller make a docket.
     pub(crate) fn of(numbers: Slip) -> Docket
         ensures { slip result ≡ numbers }
     {
@@ -60,7 +60,7 @@ impl Docket {
         Docket { room, seat, number }
     }
 
-    // Its numbers, where it is spent. It is no `From`, and stays within the crate: outside it nobody can let a docket fall.
+    // Its numbers, where it is spent. A public `From` would let any caller be rid of a docket unspent.
     pub(crate) fn into_slip(self) -> Slip
         ensures { result ≡ slip self }
     {

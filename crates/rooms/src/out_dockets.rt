@@ -16,8 +16,8 @@ pub struct OutDockets {
 }
 
 impl OutDockets {
-    // The dockets that are out at a room, where nobody has any of them in hand. It stays within the crate, where `run` ends
-    // by it.
+    // The dockets that are out at a room, where nobody has any of them in hand. `run` alone calls it, at its
+    // end: two calls would hand out two dockets of one letter.
     pub(crate) fn of(room: &Room) -> OutDockets
         ensures { dockets_left result ≡ dockets_out (state room.now) }
     {

@@ -1,14 +1,12 @@
 // A room's whole life: it opens and makes one step after the other.
-ghost use Rattle.std.specs.Prelude.{◌≡◌, ◌≤◌, [], length, drop, Ok};
+ghost use Rattle.std.specs.Prelude.{◌≡◌, ◌≤◌, length, drop, Ok};
 ghost use Rattle.letters.specs.Refusals.{told};
-ghost use Rattle.lives.specs.Traces.{answer_of, traced};
-ghost use Rattle.lives.specs.Worked.{Leads, Worked, moment};
-ghost use Rattle.lives.specs.Keeps.{AlwaysKeeps, Keeps, KeepsThroughout};
-ghost use Rattle.rooms.specs.Drafts.{draft_state, opened};
+ghost use Rattle.lives.specs.Worked.{Worked};
+ghost use Rattle.lives.specs.Keeps.{AlwaysKeeps, Keeps};
 ghost use Rattle.rooms.specs.Handing.{AreOut, dockets_left, dockets_out};
-ghost use Rattle.rooms.specs.Running.{run_check};
-ghost use Rattle.rooms.specs.Serving.{CarriedThrough, Serves};
+ghost use Rattle.rooms.specs.Running.{RunCarries, RunKeeps, RunLeads, StepsCarry, StepsLead, StepsServe, run_answer, steps_trace};
 ghost use Rattle.rooms.specs.States.{state};
+ghost use Rattle.rooms.specs.Working.{room_moment};
 
 use crate::draft::Draft;
 use crate::ended::Ended;
@@ -23,7 +21,7 @@ use lives::reply::Reply;
 use seats::slip::Slip;
 use sheets::sheet::Sheet;
 
-// Whether the draft can be run: 5 where there is no place for every reply, else as opening it, 4, 5, 6, 7.
+// Whether the draft can be run. Refused with 5 where not every reply has a place, and else as its opening is, with 4, 5, 6, 7.
 pub fn check<B: Body, C: Carrier<Body = B>>(
     draft: &Draft,
     logs: &[Letter<B>],
@@ -32,7 +30,7 @@ pub fn check<B: Body, C: Carrier<Body = B>>(
     steps: &[Move<B, Slip>],
     replies: &[Result<Reply<Slip>, Refusal>],
 ) -> Result<(), Refusal>
-    ensures { told (λ u. u) result ≡ run_check (draft_state draft.now) (length logs.now) (length holds.now) (C.Carrier.meaning carrier.now) (length steps.now) (length replies.now) }
+    ensures { told (λ u. u) result ≡ run_answer C.Carrier draft.now logs.now holds.now carrier.now steps.now replies.now }
 {
     if replies.len() < steps.len() {
         return Err(Refusal::TooShort);
@@ -51,14 +49,14 @@ pub fn run<B: Body, C: Carrier<Body = B>, K: Sheet<Body = B>>(
     steps: &[Move<B, Slip>],
     replies: &mut [Result<Reply<Slip>, Refusal>],
 ) -> Ended
-    requires { run_check (draft_state draft) (length logs.old) (length holds.old) (C.Carrier.meaning carrier.old) (length steps.now) (length replies.old) ≡ Ok tt }
-    ensures leads { Leads (moment (opened (draft_state draft)) logs.old holds.old (C.Carrier.meaning carrier.old)) (traced answer_of [] steps.now replies.new) (moment (state result.room) logs.new holds.new (C.Carrier.meaning carrier.new)) }
-    ensures worked { Worked (traced answer_of [] steps.now replies.new) (moment (state result.room) logs.new holds.new (C.Carrier.meaning carrier.new)) }
-    ensures keeps { Keeps K.Sheet.kind (traced answer_of [] steps.now replies.new) (moment (state result.room) logs.new holds.new (C.Carrier.meaning carrier.new)) }
-    ensures throughout { KeepsThroughout K.Sheet.kind (moment (opened (draft_state draft)) logs.old holds.old (C.Carrier.meaning carrier.old)) (traced answer_of [] steps.now replies.new) (moment (state result.room) logs.new holds.new (C.Carrier.meaning carrier.new)) }
+    requires { run_answer C.Carrier draft logs.old holds.old carrier.old steps.now replies.old ≡ Ok tt }
+    ensures leads { RunLeads C.Carrier draft logs.old holds.old carrier.old steps.now replies.new result.room logs.new holds.new carrier.new }
+    ensures worked { Worked (steps_trace steps.now replies.new) (room_moment C.Carrier result.room logs.new holds.new carrier.new) }
+    ensures keeps { Keeps K.Sheet.kind (steps_trace steps.now replies.new) (room_moment C.Carrier result.room logs.new holds.new carrier.new) }
+    ensures throughout { RunKeeps K.Sheet C.Carrier draft logs.old holds.old carrier.old steps.now replies.new result.room logs.new holds.new carrier.new }
     ensures always { AlwaysKeeps K.Sheet.kind }
-    ensures carrier { CarriedThrough C.Carrier.meaning C.Carrier.puts C.Carrier.rests (moment (opened (draft_state draft)) logs.old holds.old (C.Carrier.meaning carrier.old)) carrier.old (traced answer_of [] steps.now replies.new) (moment (state result.room) logs.new holds.new (C.Carrier.meaning carrier.new)) carrier.new }
-    ensures serves { Serves C.Carrier.meaning C.Carrier.puts C.Carrier.rests carrier.old (traced answer_of [] steps.now replies.new) carrier.new }
+    ensures carrier { RunCarries C.Carrier draft logs.old holds.old carrier.old steps.now replies.new result.room logs.new holds.new carrier.new }
+    ensures serves { StepsServe C.Carrier carrier.old steps.now replies.new carrier.new }
     ensures dockets { dockets_left result.dockets ≡ dockets_out (state result.room) }
     ensures good { AreOut (state result.room) (dockets_left result.dockets) }
     ensures rest { drop (length steps.now) replies.new ≡ drop (length steps.now) replies.old }
@@ -79,13 +77,13 @@ fn step_all<B: Body, C: Carrier<Body = B>>(
     replies: &mut [Result<Reply<Slip>, Refusal>],
 )
     requires { length steps.now ≤ length replies.old }
-    ensures leads { Leads (moment (state room.old) logs.old holds.old (C.Carrier.meaning carrier.old)) (traced answer_of [] steps.now replies.new) (moment (state room.new) logs.new holds.new (C.Carrier.meaning carrier.new)) }
-    ensures carrier { CarriedThrough C.Carrier.meaning C.Carrier.puts C.Carrier.rests (moment (state room.old) logs.old holds.old (C.Carrier.meaning carrier.old)) carrier.old (traced answer_of [] steps.now replies.new) (moment (state room.new) logs.new holds.new (C.Carrier.meaning carrier.new)) carrier.new }
-    ensures serves { Serves C.Carrier.meaning C.Carrier.puts C.Carrier.rests carrier.old (traced answer_of [] steps.now replies.new) carrier.new }
+    ensures leads { StepsLead C.Carrier room.old logs.old holds.old carrier.old steps.now replies.new room.new logs.new holds.new carrier.new }
+    ensures carrier { StepsCarry C.Carrier room.old logs.old holds.old carrier.old steps.now replies.new room.new logs.new holds.new carrier.new }
+    ensures serves { StepsServe C.Carrier carrier.old steps.now replies.new carrier.new }
     ensures rest { drop (length steps.now) replies.new ≡ drop (length steps.now) replies.old }
 {
     for (i, asked) in steps.iter().enumerate() {
-        // no `iter_mut`: what is written through it is not known of the replies afterwards
+        // Not by `iter_mut`: of what is written through it, nothing is known of the replies afterwards.
         replies[i] = room.step(logs, holds, carrier, *asked);
     }
 }

@@ -3,7 +3,7 @@ ghost use Rattle.std.specs.Prelude.{◌≡◌, ◌*◌, ◌≤◌, ◌&&◌, nat
 
 // The terms of a room: its number, its quota, and the names of the boxes that are enrolled, in sixteen places with their
 // count beside them. A vector of names would be no plainer: a room's state shows all sixteen places, so that what a draft
-// and a room hold would have to be told by filling the vector up, and each test of a seat would turn its length into a `u8`.
+// and a room hold would have to be stated by filling the vector up, and each test of a seat would turn its length into a `u8`.
 #[derive(Drop)]
 pub(crate) struct Terms {
     pub(crate) number: u32,

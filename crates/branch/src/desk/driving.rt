@@ -4,7 +4,8 @@ ghost use Rattle.seats.specs.declared.seat.DocketEvent.TheVariants.{Park};
 ghost use Rattle.seats.specs.Outcomes.{docket_room, good_slip, park_answer};
 ghost use Rattle.lives.specs.declared.moves.Move.TheVariants.{Collect, Post, Show, Take};
 ghost use Rattle.rooms.specs.States.{slip, state};
-ghost use Rattle.branch.specs.Turns.{Dispatched, Follows, Turn, docket_calls, show_calls, take_calls};
+ghost use Rattle.branch.specs.Driving.{DeskTurn};
+ghost use Rattle.branch.specs.Turns.{Dispatched, Follows, docket_calls, show_calls, take_calls};
 
 use crate::desk::Desk;
 use crate::outcome::Outcome;
@@ -15,9 +16,9 @@ use letters::refusal::Refusal;
 use rooms::docket::{Docket, Returned};
 
 impl<C: Carrier<Body = Job>> Desk<'_, '_, C> {
-    // Makes one step, and answers what it came to. A docket is sent at once, and parked where that is refused.
+    // Makes one step, and answers its outcome. A docket is sent at once, and parked where that is refused.
     pub fn make_step(&mut self, step: Step) -> Result<Outcome, Refusal>
-        ensures { Turn C.Carrier.meaning C.Carrier.puts C.Carrier.rests step.seat step.call self.old result self.new }
+        ensures { DeskTurn C.Carrier step.seat step.call self.old result self.new }
     {
         match step.call {
             Call::Post(job) => self.post(step.seat, job?),

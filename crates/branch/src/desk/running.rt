@@ -1,7 +1,6 @@
 // Making the steps that are read.
-ghost use Rattle.std.specs.Prelude.{IfOk, string_bytes};
-ghost use Rattle.branch.specs.Runs.{Ran, Tried};
-ghost use Rattle.branch.specs.Turns.{Turn};
+ghost use Rattle.std.specs.Prelude.{IfOk};
+ghost use Rattle.branch.specs.Driving.{DeskRun, DeskTry};
 
 use crate::desk::Desk;
 use crate::line::{add_bad, add_step};
@@ -21,7 +20,7 @@ impl<C: Carrier<Body = Job>> Desk<'_, '_, C> {
         index: u64,
         lines: &mut String,
     ) -> Result<Result<(), NoStep>, AllocError>
-        ensures { IfOk result (λ tried. Tried (Turn C.Carrier.meaning C.Carrier.puts C.Carrier.rests) tried bytes.now index (string_bytes lines.old) self.old (string_bytes lines.new) self.new) }
+        ensures { IfOk result (λ tried. DeskTry C.Carrier tried bytes.now index lines.old self.old lines.new self.new) }
     {
         match Step::try_from(bytes) {
             Ok(step) => {
@@ -43,7 +42,7 @@ impl<C: Carrier<Body = Job>> Desk<'_, '_, C> {
         index: &mut u64,
         lines: &mut String,
     ) -> Result<Result<(), NoStep>, AllocError>
-        ensures { IfOk result (λ made. Ran (Turn C.Carrier.meaning C.Carrier.puts C.Carrier.rests) made bytes.now index.old (string_bytes lines.old) self.old index.new (string_bytes lines.new) self.new) }
+        ensures { IfOk result (λ made. DeskRun C.Carrier made bytes.now index.old lines.old self.old index.new lines.new self.new) }
     {
         for step in bytes.chunks(STEP) {
             match self.try_step(step, *index, lines)? {

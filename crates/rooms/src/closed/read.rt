@@ -1,11 +1,10 @@
-// Reading a closed room.
 ghost use Rattle.std.specs.Prelude.{◌≡◌, length};
 ghost use Rattle.letters.specs.Refusals.{told};
 ghost use Rattle.carriers.specs.Meaning.{Kept};
-ghost use Rattle.sheets.specs.Sheets.{answered, left_by};
+ghost use Rattle.sheets.specs.Sheets.{answered};
 ghost use Rattle.lives.specs.Drawing.{sheet_outcome};
 ghost use Rattle.lives.specs.Keeps.{AlwaysKeeps};
-ghost use Rattle.rooms.specs.Reading.{closed_state, log_answer, pages_answer};
+ghost use Rattle.rooms.specs.Reading.{SheetLeft, closed_state, log_answer, pages_answer};
 
 use crate::closed::ClosedRoom;
 use letters::body::Body;
@@ -13,7 +12,7 @@ use letters::letter::Letter;
 use letters::refusal::Refusal;
 use sheets::sheet::Sheet;
 
-// Each hands on to the room's own: a closed room is a type of its own, with these calls and no others.
+// Each makes the room's own call: a closed room is a type of its own, with these calls and no others.
 impl ClosedRoom {
     // The letters of a seat's log, from the top: a part of the log table. Refused with 5, 8.
     pub fn log<'t, B: Body>(
@@ -43,7 +42,7 @@ impl ClosedRoom {
         sheet: &mut K,
     ) -> Result<(), Refusal>
         ensures answer { told (λ u. u) result ≡ answered (sheet_outcome K.Sheet.kind (closed_state self.now) logs.now (length holds.now) seat) }
-        ensures leaves { K.Sheet.meaning sheet.new ≡ left_by (sheet_outcome K.Sheet.kind (closed_state self.now) logs.now (length holds.now) seat) (K.Sheet.meaning sheet.old) }
+        ensures leaves { SheetLeft K.Sheet (closed_state self.now) logs.now holds.now seat sheet.old sheet.new }
         ensures untouched { Kept result sheet.old sheet.new }
         ensures keeps { AlwaysKeeps K.Sheet.kind }
     {

@@ -1,4 +1,3 @@
-// Closing.
 ghost use Rattle.std.specs.Prelude.{◌≡◌, Ok};
 ghost use Rattle.letters.specs.Refusals.{told};
 ghost use Rattle.rooms.specs.Reading.{all_clear, close_check, closed_state};
@@ -20,7 +19,7 @@ impl Room {
         Ok(())
     }
 
-    // Ends the room.
+    // Ends the room, which is only read from then on.
     pub fn close(self) -> ClosedRoom
         requires { close_check (state self) ≡ Ok tt }
         ensures { closed_state result ≡ state self }

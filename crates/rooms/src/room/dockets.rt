@@ -97,7 +97,7 @@ impl Room {
         self.out(slip.seat) == Some(slip)
     }
 
-    // Tells a seat what happens to its docket.
+    // Writes down at a seat what happens to its docket.
     pub(crate) fn note_docket(&mut self, seat: u8, event: DocketEvent)
         requires { seat < self.old.terms.count }
         ensures { state self.new ≡ with_seat (state self.old) seat (docketed (seat_at (state self.old) seat) event) }

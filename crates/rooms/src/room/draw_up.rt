@@ -2,9 +2,10 @@
 ghost use Rattle.std.specs.Prelude.{◌≡◌, length};
 ghost use Rattle.letters.specs.Refusals.{told};
 ghost use Rattle.carriers.specs.Meaning.{Kept};
-ghost use Rattle.sheets.specs.Sheets.{answered, left_by};
+ghost use Rattle.sheets.specs.Sheets.{answered};
 ghost use Rattle.lives.specs.Drawing.{sheet_outcome};
 ghost use Rattle.lives.specs.Keeps.{AlwaysKeeps};
+ghost use Rattle.rooms.specs.Reading.{SheetLeft};
 ghost use Rattle.rooms.specs.States.{state};
 
 use crate::room::Room;
@@ -15,7 +16,7 @@ use sheets::sheet::{Sheet, draw_up};
 impl Room {
     // Clears the sheet and enters the letters of a seat's log from the top. Refused with 5, 8, 17: the sheet needs places for
     // every letter that a log of the room may come to have, however short the log is. On this kind of sheet, as on every
-    // kind that keeps the law, logs of a room that hold the same letters come to the same.
+    // kind that keeps the law, logs of a room that hold the same letters result in the same sheet.
     pub fn draw_up<K: Sheet>(
         &self,
         logs: &[Letter<K::Body>],
@@ -24,7 +25,7 @@ impl Room {
         sheet: &mut K,
     ) -> Result<(), Refusal>
         ensures answer { told (λ u. u) result ≡ answered (sheet_outcome K.Sheet.kind (state self.now) logs.now (length holds.now) seat) }
-        ensures leaves { K.Sheet.meaning sheet.new ≡ left_by (sheet_outcome K.Sheet.kind (state self.now) logs.now (length holds.now) seat) (K.Sheet.meaning sheet.old) }
+        ensures leaves { SheetLeft K.Sheet (state self.now) logs.now holds.now seat sheet.old sheet.new }
         ensures untouched { Kept result sheet.old sheet.new }
         ensures keeps { AlwaysKeeps K.Sheet.kind }
     {

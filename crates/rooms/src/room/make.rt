@@ -1,10 +1,8 @@
 // One step, whichever it is, with a docket in hand.
 ghost use Rattle.std.specs.Prelude.{◌≡◌};
-ghost use Rattle.lives.specs.Worked.{Step, WorksOn, moment};
-ghost use Rattle.rooms.specs.Calls.{Carried};
-ghost use Rattle.rooms.specs.Asked.{answer_as, brought, move_of, returned, to_return};
+ghost use Rattle.rooms.specs.Asked.{AskedStep, AskedWorksOn, answer_as, brought, move_of, returned, to_return};
 ghost use Rattle.rooms.specs.Serving.{ServesOn};
-ghost use Rattle.rooms.specs.States.{state};
+ghost use Rattle.rooms.specs.Working.{StepCarries};
 
 use crate::declined::Declined;
 use crate::docket::Docket;
@@ -25,10 +23,10 @@ impl Room {
         carrier: &mut C,
         asked: Move<B, Docket>,
     ) -> Result<Reply<Docket>, Declined>
-        ensures step { Step (move_of asked) (moment (state self.old) logs.old holds.old (C.Carrier.meaning carrier.old)) (answer_as result) (moment (state self.new) logs.new holds.new (C.Carrier.meaning carrier.new)) }
-        ensures works { WorksOn (move_of asked) (moment (state self.old) logs.old holds.old (C.Carrier.meaning carrier.old)) (answer_as result) (moment (state self.new) logs.new holds.new (C.Carrier.meaning carrier.new)) }
+        ensures step { AskedStep C.Carrier asked self.old logs.old holds.old carrier.old result self.new logs.new holds.new carrier.new }
+        ensures works { AskedWorksOn C.Carrier asked self.old logs.old holds.old carrier.old result self.new logs.new holds.new carrier.new }
         ensures docket { returned result ≡ to_return (brought asked) (answer_as result) }
-        ensures carrier { Carried C.Carrier.puts C.Carrier.rests (move_of asked) (moment (state self.old) logs.old holds.old (C.Carrier.meaning carrier.old)) carrier.old carrier.new }
+        ensures carrier { StepCarries C.Carrier (move_of asked) self.old logs.old holds.old carrier.old carrier.new }
         ensures serves { ServesOn C.Carrier.meaning C.Carrier.puts C.Carrier.rests (move_of asked) (answer_as result) carrier.old carrier.new }
     {
         // A step is data, listed or read from bytes: a closure in its place would have to be made by the same match.

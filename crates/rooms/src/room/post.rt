@@ -1,4 +1,3 @@
-// Posting.
 ghost use Rattle.std.specs.Prelude.{◌≡◌, IfOk, true, length};
 ghost use Rattle.letters.specs.Refusals.{told};
 ghost use Rattle.seats.specs.Outcomes.{PostLogs, good_slip, post_answer};

@@ -1,4 +1,3 @@
-// Reading a room.
 ghost use Rattle.std.specs.Prelude.{◌≡◌, length};
 ghost use Rattle.letters.specs.Refusals.{told};
 ghost use Rattle.rooms.specs.Reading.{log_answer, pages_answer};

@@ -1,9 +1,8 @@
-// Sending.
-ghost use Rattle.std.specs.Prelude.{◌≡◌, length};
+ghost use Rattle.std.specs.Prelude.{◌≡◌};
 ghost use Rattle.letters.specs.Refusals.{told};
-ghost use Rattle.seats.specs.declared.seat.DocketEvent.TheVariants.{Send};
-ghost use Rattle.seats.specs.Outcomes.{PutOf, PutsOnce, carrier_check, docket_room, send_answer, send_letter};
+ghost use Rattle.seats.specs.Outcomes.{carrier_check, send_letter};
 ghost use Rattle.rooms.specs.States.{ComesBack, slip, spent, state};
+ghost use Rattle.rooms.specs.Working.{SendLeaves, SendPuts, send_outcome, send_room};
 
 use crate::docket::{Docket, Returned};
 use crate::room::Room;
@@ -24,11 +23,11 @@ impl Room {
         carrier: &mut C,
         docket: Docket,
     ) -> Result<(), Returned>
-        ensures answer { spent result ≡ send_answer (state self.old) logs.now (length holds.now) (C.Carrier.meaning carrier.old) (slip docket) }
+        ensures answer { spent result ≡ send_outcome C.Carrier self.old logs.now holds.now carrier.old (slip docket) }
         ensures docket { ComesBack docket result }
-        ensures room { state self.new ≡ docket_room (state self.old) docket.seat Send (send_answer (state self.old) logs.now (length holds.now) (C.Carrier.meaning carrier.old) (slip docket)) }
-        ensures once { PutsOnce C.Carrier.puts C.Carrier.rests (send_letter (state self.old) logs.now (length holds.now) (C.Carrier.meaning carrier.old).seats (slip docket)) (send_answer (state self.old) logs.now (length holds.now) (C.Carrier.meaning carrier.old) (slip docket)) carrier.old carrier.new }
-        ensures carrier { PutOf (C.Carrier.meaning carrier.old) (send_letter (state self.old) logs.now (length holds.now) (C.Carrier.meaning carrier.old).seats (slip docket)) (send_answer (state self.old) logs.now (length holds.now) (C.Carrier.meaning carrier.old) (slip docket)) (C.Carrier.meaning carrier.new) }
+        ensures room { state self.new ≡ send_room C.Carrier self.old logs.now holds.now carrier.old (slip docket) }
+        ensures once { SendPuts C.Carrier self.old logs.now holds.now carrier.old (slip docket) carrier.new }
+        ensures carrier { SendLeaves C.Carrier self.old logs.now holds.now carrier.old (slip docket) carrier.new }
     {
         match self.send_slip(logs, holds, carrier, docket.slip()) {
             Ok(()) => {
@@ -47,10 +46,10 @@ impl Room {
         carrier: &mut C,
         slip: Slip,
     ) -> Result<(), Refusal>
-        ensures answer { told (λ u. u) result ≡ send_answer (state self.old) logs.now (length holds.now) (C.Carrier.meaning carrier.old) slip }
-        ensures room { state self.new ≡ docket_room (state self.old) slip.seat Send (send_answer (state self.old) logs.now (length holds.now) (C.Carrier.meaning carrier.old) slip) }
-        ensures once { PutsOnce C.Carrier.puts C.Carrier.rests (send_letter (state self.old) logs.now (length holds.now) (C.Carrier.meaning carrier.old).seats slip) (send_answer (state self.old) logs.now (length holds.now) (C.Carrier.meaning carrier.old) slip) carrier.old carrier.new }
-        ensures carrier { PutOf (C.Carrier.meaning carrier.old) (send_letter (state self.old) logs.now (length holds.now) (C.Carrier.meaning carrier.old).seats slip) (send_answer (state self.old) logs.now (length holds.now) (C.Carrier.meaning carrier.old) slip) (C.Carrier.meaning carrier.new) }
+        ensures answer { told (λ u. u) result ≡ send_outcome C.Carrier self.old logs.now holds.now carrier.old slip }
+        ensures room { state self.new ≡ send_room C.Carrier self.old logs.now holds.now carrier.old slip }
+        ensures once { SendPuts C.Carrier self.old logs.now holds.now carrier.old slip carrier.new }
+        ensures carrier { SendLeaves C.Carrier self.old logs.now holds.now carrier.old slip carrier.new }
     {
         self.put_letter(logs, holds, carrier, slip)?;
         self.note_docket(slip.seat, DocketEvent::Send);
@@ -65,9 +64,9 @@ impl Room {
         carrier: &mut C,
         slip: Slip,
     ) -> Result<(), Refusal>
-        ensures answer { told (λ u. u) result ≡ send_answer (state self.now) logs.now (length holds.now) (C.Carrier.meaning carrier.old) slip }
-        ensures once { PutsOnce C.Carrier.puts C.Carrier.rests (send_letter (state self.now) logs.now (length holds.now) (C.Carrier.meaning carrier.old).seats slip) (send_answer (state self.now) logs.now (length holds.now) (C.Carrier.meaning carrier.old) slip) carrier.old carrier.new }
-        ensures carrier { PutOf (C.Carrier.meaning carrier.old) (send_letter (state self.now) logs.now (length holds.now) (C.Carrier.meaning carrier.old).seats slip) (send_answer (state self.now) logs.now (length holds.now) (C.Carrier.meaning carrier.old) slip) (C.Carrier.meaning carrier.new) }
+        ensures answer { told (λ u. u) result ≡ send_outcome C.Carrier self.now logs.now holds.now carrier.old slip }
+        ensures once { SendPuts C.Carrier self.now logs.now holds.now carrier.old slip carrier.new }
+        ensures carrier { SendLeaves C.Carrier self.now logs.now holds.now carrier.old slip carrier.new }
     {
         let letter = self.letter_to_send(logs, holds.len(), carrier.seats(), slip)?;
         carrier.put(letter)

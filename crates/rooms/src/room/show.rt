@@ -1,4 +1,3 @@
-// Showing.
 ghost use Rattle.std.specs.Prelude.{◌≡◌, length};
 ghost use Rattle.letters.specs.Names.{name_of};
 ghost use Rattle.letters.specs.Refusals.{told};

@@ -1,8 +1,6 @@
 // One step, whichever it is, by the numbers of a docket.
 ghost use Rattle.lives.specs.Traces.{answer_of};
-ghost use Rattle.lives.specs.Worked.{Step, moment};
-ghost use Rattle.rooms.specs.Calls.{Carried};
-ghost use Rattle.rooms.specs.States.{state};
+ghost use Rattle.rooms.specs.Working.{RoomStep, StepCarries};
 
 use crate::room::Room;
 use carriers::carrier::Carrier;
@@ -14,8 +12,8 @@ use lives::reply::Reply;
 use seats::slip::Slip;
 
 impl Room {
-    // Makes one step. Nobody has a docket in hand: it is brought and told by its numbers, so that a list of steps is plain
-    // data. It stays within the crate, where `run` makes lists of steps.
+    // Makes one step. A docket is given and answered by its numbers, and nobody has it in hand, so that a list of steps is
+    // plain data. No caller outside the crate may send by numbers: `run` alone makes lists of steps.
     pub(crate) fn step<B: Body, C: Carrier<Body = B>>(
         &mut self,
         logs: &mut [Letter<B>],
@@ -23,8 +21,8 @@ impl Room {
         carrier: &mut C,
         asked: Move<B, Slip>,
     ) -> Result<Reply<Slip>, Refusal>
-        ensures step { Step asked (moment (state self.old) logs.old holds.old (C.Carrier.meaning carrier.old)) (answer_of result) (moment (state self.new) logs.new holds.new (C.Carrier.meaning carrier.new)) }
-        ensures carrier { Carried C.Carrier.puts C.Carrier.rests asked (moment (state self.old) logs.old holds.old (C.Carrier.meaning carrier.old)) carrier.old carrier.new }
+        ensures step { RoomStep C.Carrier asked self.old logs.old holds.old carrier.old (answer_of result) self.new logs.new holds.new carrier.new }
+        ensures carrier { StepCarries C.Carrier asked self.old logs.old holds.old carrier.old carrier.new }
     {
         match asked {
             Move::Post(seat, body) => {

@@ -34,7 +34,7 @@ impl Room {
         }
     }
 
-    // Writes the table of seats back with what one seat was told.
+    // Writes the table of seats back with one seat changed.
     pub(crate) fn tell(&mut self, s: u8, seat: Seat)
         requires { (Kept self.old.terms.count self.old.terms.quota seat) × (s < 16) }
         ensures { state self.new ≡ with_seat (state self.old) s seat }

@@ -1,12 +1,12 @@
-// Taking.
-ghost use Rattle.std.specs.Prelude.{◌≡◌, ◌<◌, length};
+ghost use Rattle.std.specs.Prelude.{◌≡◌, ◌<◌};
 ghost use Rattle.std.specs.Result.{OnErr};
 ghost use Rattle.letters.specs.Letters.{letter_name};
 ghost use Rattle.letters.specs.Refusals.{told};
 ghost use Rattle.carriers.specs.Meaning.{draw_answer};
-ghost use Rattle.seats.specs.Outcomes.{DrawRests, Take, carrier_check, take_check, taken_as, taken_holds, taken_room, taking};
+ghost use Rattle.seats.specs.Outcomes.{taken_as, taken_holds, taken_room, taking};
 ghost use Rattle.rooms.specs.Calls.{Draws};
 ghost use Rattle.rooms.specs.States.{state};
+ghost use Rattle.rooms.specs.Working.{RoomTake, TakeRests};
 
 use crate::room::Room;
 use carriers::carrier::Carrier;
@@ -44,8 +44,8 @@ impl Room {
         seat: u8,
         place: u32,
     ) -> Result<Taken, Refusal>
-        ensures take { Take (take_check (state self.old) (length logs.now) (length holds.old) (C.Carrier.meaning carrier.old) seat place) (state self.old) holds.old (C.Carrier.meaning carrier.old) seat place (told taken_as result) (state self.new) holds.new (C.Carrier.meaning carrier.new) }
-        ensures rests { DrawRests C.Carrier.rests (carrier_check (state self.old) (length logs.now) (length holds.old) (C.Carrier.meaning carrier.old).seats) (draw_answer (C.Carrier.meaning carrier.old) seat place) carrier.old carrier.new }
+        ensures take { RoomTake C.Carrier seat place self.old logs.now holds.old carrier.old (told taken_as result) self.new holds.new carrier.new }
+        ensures rests { TakeRests C.Carrier seat place self.old logs.now holds.old carrier.old carrier.new }
     {
         self.may_carry(logs.len(), holds.len(), carrier.seats())?;
         let spare = holds[0];
