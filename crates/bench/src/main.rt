@@ -1,4 +1,4 @@
-// Works a room of sixteen seats over a carrier, part after part, and prints what came of it: tests/bench/count.py counts
+// Works a room of sixteen seats over a carrier, part after part, and prints the results: tests/bench/count.py counts
 // the instructions of each part.
 #![tactic(auto)]
 
@@ -73,7 +73,7 @@ impl Setting {
     }
 }
 
-// What the parts came to.
+// The results of the parts.
 #[derive(Clone, Copy, Default)]
 struct Tally {
     seats: u32,
@@ -84,7 +84,7 @@ struct Tally {
     entered: u32,
 }
 
-// Why a run ends early: a call says no, or memory or printing fails.
+// Why a run ends early: a call refuses, or memory or printing fails.
 #[derive(Drop)]
 enum Stop {
     Refused(Refusal),

@@ -30,7 +30,7 @@ call_word call = codes " " ++ (call_name call ++ codes " ")
 abbrev pub step_head : ℕ → Step → List ℕ
 step_head index step = decimal index ++ (call_word step.call ++ (decimal step.seat ++ codes " "))
 
--- what it came to
+-- its outcome in words
 abbrev pub outcome_words : Outcome → List ℕ
 outcome_words (outcomes.Sent d) = codes "sent " ++ name_text d.seat d.number
 outcome_words (outcomes.Parked d why) = codes "parked " ++ name_text d.seat d.number

@@ -12,7 +12,7 @@ use std::alloc::AllocError;
 use std::fmt;
 use std::fmt::{Display, Formatter};
 
-// Adds the line of a step, and what it came to or why it was refused.
+// Adds the line of a step, with its outcome or why it was refused.
 pub fn add_step(
     line: &mut String,
     index: u64,

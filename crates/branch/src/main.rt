@@ -5,10 +5,10 @@ ghost use Rattle.std.specs.Prelude.{◌≡◌, ◌↔◌, ◌<◌, ◌≤◌, Er
 ghost use Rattle.std.specs.Io.KnownBytes.{Appends};
 ghost use Rattle.carriers.specs.Lines.{lines_of};
 ghost use Rattle.lives.specs.Worked.{Worked};
+ghost use Rattle.branch.specs.declared.failure.Failure.TheVariants.{Usage};
 ghost use Rattle.branch.specs.Desks.{JustOpened, all_log_lines, standing};
 ghost use Rattle.branch.specs.Driving.{DeskPrint};
 ghost use Rattle.branch.specs.Keeping.{Finished};
-ghost use Rattle.branch.specs.declared.failure.Failure.TheVariants.{Usage};
 
 use crate::desk::Desk;
 use crate::failure::Failure;

@@ -1,4 +1,4 @@
-// What a step comes to.
+// The outcome of a step.
 ghost use Rattle.std.specs.Prelude.{Some};
 ghost use Rattle.branch.specs.Lines.{outcome_words};
 
@@ -9,7 +9,7 @@ use seats::taken::Taken;
 use std::fmt;
 use std::fmt::{Display, Formatter};
 
-// The outcome of a step that is not refused. A letter that is sent or parked is told by its docket's numbers.
+// The outcome of a step that is not refused. A letter that is sent or parked is given by its docket's numbers.
 #[derive(Clone, Copy)]
 pub enum Outcome {
     Sent(Slip),

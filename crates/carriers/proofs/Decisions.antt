@@ -18,7 +18,7 @@ module _ {L : Type 0} (m : Meaning L) where
   pub draw_no_place : (seat place : ℕ) → seat < m.seats → waits_at m seat ≤ place → draw_answer m seat place ≡ Err (plain 14)
   draw_no_place seat place h l = rw (lt-ltb seat m.seats h, le-ltb place (waits_at m seat) l)
 
--- no answer is a yes and a no
+-- no answer both accepts and refuses
 clash : (u : Unit {0}) (w : Reason) {X : Type 0} → ◌≡◌ {A = Result (Unit {0}) Reason} (Err w) (Ok u) → X
 clash u w e = let z : ◌≡◌ {A = ℕ} 0 1 = cc in absurd (omega arith)
 

@@ -3,7 +3,7 @@ use Rattle.std.specs.Prelude.{◌≡◌, ℕ, cond, not, ◌&&◌, List, [], ◌
 use Rattle.carriers.specs.Meaning.{Meaning}
 
 module _ {L : Type 0} where
-  -- a seat's list after the put: one copy more at the end, but for the poster
+  -- a seat's list after the put: one copy more at the end, except in the poster's
   abbrev pub appended : Meaning L → ℕ → L → ℕ → List L
   appended m poster x k = cond (nat_lt k m.seats && not (k == poster)) (m.waiting k ++ (x ∷ [])) (m.waiting k)
 

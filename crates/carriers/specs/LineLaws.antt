@@ -62,7 +62,7 @@ module _ {B : Type 0} (l : Lines B) where
         omega (arith, length_waiting k lt, nothing)));
   }
 
-  -- that a letter fits is said of the lists
+  -- whether a letter fits, in terms of the lists
   pub fits_decides : (p : ℕ) → Decides ((lines_of l).fits p) (HasPlaces l p)
   fits_decides p = (
     λ fits.

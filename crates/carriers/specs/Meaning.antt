@@ -28,15 +28,13 @@ module _ {L : Type 0} where
     -- while nothing waits for anybody, each poster's letter has place
     pub empty_fits : Empty m → (p : ℕ) → p < m.seats → m.fits p ≡ true
 
-  -- how many letters wait for a seat, as far as 32 bits can say
+  -- how many letters wait for a seat; a list longer than 2^32 - 1 counts as that many
   abbrev pub waits_at : Meaning L → ℕ → ℕ
   waits_at m k = min (length (m.waiting k)) (2 ^ 32 - 1)
 
-  -- what a put answers
   abbrev pub put_answer : Meaning L → ℕ → Result (Unit {0}) Reason
   put_answer m poster = unless (nat_lt poster m.seats) 8 (unless (m.fits poster) 11 (Ok tt))
 
-  -- what a draw answers
   abbrev pub draw_answer : Meaning L → ℕ → ℕ → Result (Unit {0}) Reason
   draw_answer m seat place = unless (nat_lt seat m.seats) 8 (unless (nat_lt place (waits_at m seat)) 14 (Ok tt))
 
@@ -51,17 +49,17 @@ module _ {L : Type 0} where
     pub own : after.waiting seat ≡ remove (m.waiting seat) place
     pub others : (k : ℕ) → ¬ (k ≡ seat) → after.waiting k ≡ m.waiting k
 
-  -- what a put leaves: by a no, all as it was
+  -- what a put leaves: on refusal, all as it was
   abbrev pub PutLeaves : {E : Type 0} → Result (Unit {0}) E → Meaning L → ℕ → L → Meaning L → Type 0
   PutLeaves (Ok _) m poster x after = PutOn m poster x after
   PutLeaves (Err _) m poster x after = after ≡ m
 
-  -- what a draw leaves, and what is in the lent parts then: those of the letter at the place, or by a no all as it was
+  -- what a draw leaves, and what is in the lent parts then: those of the letter at the place; on refusal, all as it was
   abbrev pub DrawLeaves : {P E : Type 0} → (L → P) → Result (Unit {0}) E → Meaning L → ℕ → ℕ → Meaning L → P → P → Type 0
   DrawLeaves parts (Ok _) m seat place after lent filled = Drawn m seat place after × (filled ≡ slice_index_or (map parts (m.waiting seat)) place lent)
   DrawLeaves parts (Err _) m seat place after lent filled = (after ≡ m) × (filled ≡ lent)
 
--- by a no, memory is as it was
+-- on refusal, memory is as it was
 abbrev pub Kept : {X E : Type 0} → Result (Unit {0}) E → X → X → Type 0
 Kept (Ok _) before after = Unit {0}
 Kept (Err _) before after = after ≡ before

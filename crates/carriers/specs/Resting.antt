@@ -3,6 +3,6 @@ use Rattle.std.specs.Prelude.{◌≡◌}
 use Rattle.std.proofs.Common.{ap}
 
 module _ {C M : Type 0} (meaning : C → M) where
-  -- it means what it meant
+  -- its meaning stays
   pub as_it_was : (c after : C) → after ≡ c → meaning after ≡ meaning c
   as_it_was c after same = ap meaning same

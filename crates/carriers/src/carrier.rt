@@ -19,12 +19,12 @@ pub trait Carrier {
 
     ghost lawful: { (c : Self) → Lawful (meaning c) };
 
-    // What one put of a letter makes of the carrier. Two puts of a letter and one that brings it twice can come to the same
-    // meaning; each make of carrier says here what its own one put does.
+    // What one put of a letter does to the carrier itself. Two puts of a letter, and one that brings it twice, can leave the same
+    // meaning; each make of carrier defines here what one put of its own does.
     ghost puts: { Self → Letter Self.Body → Self → Type 0 };
 
-    // What a refused put or draw leaves of the carrier itself, with memory that is lent to it. Each make of carrier says here
-    // how much of it stays; a carrier may say no more than that it means what it meant, and none says less.
+    // What a refused put or draw leaves of the carrier itself, with memory that is lent to it. Each make of carrier defines here
+    // how much of it stays: at least its meaning.
     ghost rests: { Self → Self → Type 0 };
 
     ghost still: { (c after : Self) → rests c after → meaning after ≡ meaning c };
@@ -33,7 +33,7 @@ pub trait Carrier {
     fn seats(&self) -> u8
         ensures { result ≡ (meaning self.now).seats };
 
-    // How many letters wait for a seat, as far as 32 bits can say.
+    // How many letters wait for a seat; a list longer than 2^32 - 1 counts as that many.
     fn waits(&self, seat: u8) -> u32
         ensures { result ≡ waits_at (meaning self.now) seat };
 
@@ -48,7 +48,7 @@ pub trait Carrier {
         ensures once { OnOk result (puts self.old letter.now self.new) }
         ensures rests { OnErr result (rests self.old self.new) };
 
-    // Takes out the letter that waits at a place and fills the lent parts with its own; 8 where the seat is none here,
+    // Takes out the letter that waits at a place and fills the lent parts with its own; 8 where there is no such seat,
     // 14 where the place is past those that wait.
     fn draw(&mut self, seat: u8, place: u32, parts: &mut Parts<Self::Body>) -> Result<(), Refusal>
         ensures answer { told (λ u. u) result ≡ draw_answer (meaning self.old) seat place }

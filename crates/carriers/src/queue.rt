@@ -4,7 +4,7 @@ ghost use Rattle.std.specs.List.{copy_within, remove};
 
 use letters::letter::Letter;
 
-// The first `count` of the places hold what waits, in order. The places are lent, so no vector stands for both.
+// The first `count` of the places hold what waits, in order.
 #[derive(Drop)]
 pub(crate) struct Queue<'a, B> {
     places: &'a mut [Letter<B>],

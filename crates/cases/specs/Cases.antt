@@ -45,7 +45,7 @@ pub data Case : Type 0 where
   begins_with : (seats poster mask draws : ℕ) → Case
   -- which mask marks all of so many seats? its ones are as many
   marks_all : (seats mask : ℕ) → Case
-  -- with which number is a spool of so many bytes for five seats refused, 0 being a yes?
+  -- with which number is a spool of so many bytes for five seats refused, 0 where it is accepted?
   spool_refused : (bytes number : ℕ) → Case
   -- how many rows does a spool of so many bytes hold?
   spool_holds : (bytes rows : ℕ) → Case
@@ -59,7 +59,7 @@ pub data Case : Type 0 where
 abbrev agree : Bool → Bool → Bool
 agree a b = cond a b (not b)
 
--- the number of a no, and 0 for a yes
+-- the number of a refusal, and 0 where there is none
 abbrev no_number : {X : Type 0} → Result X Reason → ℕ
 no_number (Ok x) = 0
 no_number (Err why) = why.number

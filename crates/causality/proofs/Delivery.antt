@@ -36,7 +36,7 @@ module _ {B : Type 0} where
   abbrev pub Delivery : ℕ → List (Letter B) → World B → Type 0
   Delivery N ls w = (m : Letter B) → m ∈ ls → (t : ℕ) → t < N → ¬ (t ≡ m.poster) → OnWay w t m
 
-  -- a letter unsent stays so, and one of the others comes to what the step makes of it
+  -- a letter unsent stays so, and for each other place the step says where the letter is then
   way : (w w' : World B) (t : ℕ) (m : Letter B) → (w'.box m.poster).docket ≡ (w.box m.poster).docket
       → (w'.box m.poster).clock m.poster ≡ (w.box m.poster).clock m.poster
       → (m ∈ w.waiting t → OnWay w' t m) → (m ∈ (w.box t).hold → OnWay w' t m) → (number_of m ≤ (w.box t).clock m.poster → OnWay w' t m)

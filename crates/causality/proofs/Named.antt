@@ -1,4 +1,4 @@
--- What led to what, told by the names of the letters, is what led to what.
+-- What led to what is the same where names stand for the letters.
 use Rattle.std.proofs.Common.{◌≡◌, ℕ, [], ◌∷◌, sym, refl, ap, ◌∙◌, subst, inl, inr}
 use Rattle.letters.specs.Lists.{◌∈◌, here, there}
 use Rattle.causality.specs.History.{History, posted, shown, posted_letters, Seen, Before, LedTo, direct, through, told}
@@ -29,7 +29,7 @@ module _ {A L : Type 0} (f : A → L) where
   led_named h x y (direct b) = direct (before_named x y h b)
   led_named h x y (through {k = k} a b) = through (led_named h x k a) (led_named h k y b)
 
-  -- two letters, the second posted, that are told by i and j
+  -- two letters, the second posted, for which i and j stand
   pub record PairOf (R : A → A → Type 0) (h : History A) (i j : L) : Type 0 where
     pub before : A
     pub after : A

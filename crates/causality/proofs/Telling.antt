@@ -1,4 +1,4 @@
--- The test of stamps tells what led to what.
+-- The test of stamps decides what led to what.
 use Rattle.std.proofs.Common.{◌≡◌, Bool, not, eqb, Decides}
 use Rattle.std.proofs.lemmas.Bool.{leb-true, le-leb}
 use Rattle.std.proofs.lemmas.Bool.Decides.{Decides-and, Decides-at, Decides-eqb, Decides-like, Decides-not}

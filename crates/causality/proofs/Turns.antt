@@ -40,7 +40,7 @@ pub in_turn : {B : Type 0} {N Q : ℕ} {w : World B} {h : History (Letter B)} �
 in_turn (opened o) s = o.log s
 in_turn (more {w} {w'} {h} run step) s = moved w w' h (in_turn run) step s
 
--- told by what a function makes of the letters
+-- the same with what a function makes of the letters
 pub told_in_turn : {A L : Type 0} (f : A → L) (s : ℕ) (h : History A) → map f (seen_at s h) ≡ seen_at s (told f h)
 told_in_turn f s [] = refl
 told_in_turn f s (posted t m ∷ h) = elim (cases_Bool (eqb t s)) [

@@ -1,5 +1,5 @@
--- What happened in a room, and what led to what: no word of stamps. L is what the letters are told by: whole letters, or
--- their names.
+-- What happened in a room, and what led to what, without stamps. L is what stands for a letter: the whole letter, or
+-- its name.
 use Rattle.std.specs.Prelude.{◌≡◌, ℕ, cond, ◌⊎◌, List, [], ◌∷◌, ◌++◌, ◌==◌}
 
 -- a letter was posted, or shown (delivered), at the box of a seat
@@ -41,7 +41,7 @@ module _ {L : Type 0} where
     direct : {m m' : L} → Before m m' h → LedTo h m m'
     through : {m k m' : L} → LedTo h m k → LedTo h k m' → LedTo h m m'
 
--- the same events, each letter told by what a function makes of it
+-- the same events, with what a function makes of each letter in its place
 abbrev pub told : {A L : Type 0} → (A → L) → History A → History L
 told f [] = []
 told f (posted s m ∷ h) = posted s (f m) ∷ told f h

@@ -1,4 +1,4 @@
--- What may be said of a list of letters.
+-- Properties of lists of letters.
 use Rattle.std.specs.Prelude.{◌≡◌, List}
 use Rattle.letters.specs.declared.letter.Letter.{Letter}
 use Rattle.letters.specs.Letters.{letter_name}

@@ -1,4 +1,4 @@
--- The theorems are about something: a run with every kind of step.
+-- The theorems are not empty: a run with every kind of step.
 use Rattle.std.specs.Prelude.{◌≡◌, ℕ, ◌<◌, List, [], ◌∷◌, replicate}
 use Rattle.letters.specs.declared.letter.Letter.{Letter}
 use Rattle.letters.specs.declared.stamp.Stamp.{Stamp}

@@ -15,7 +15,7 @@ use Rattle.causality.specs.Runs.{Run, AtAllTimes}
 
 module _ {B : Type 0} where
   -- The log of seat s: what was posted or shown there, no letter twice, and above each letter everything that led to it,
-  -- also where the events are told by the letters' names alone, and everything that it covers but itself.
+  -- also where names stand for the letters in the events, and everything that it covers but itself.
   pub record InOrder (s : ℕ) (h : History (Letter B)) (log : List (Letter B)) : Type 0 where
     pub seen : (m : Letter B) → (m ∈ log) ↔ Seen s m h
     pub once : Once log
@@ -51,7 +51,7 @@ module _ {B : Type 0} where
     pub log : (m : Letter B) → (m ∈ b.log) ↔ (m ∈ posted_letters h)
     pub hold : b.hold ≡ []
 
-  -- what the stamps say of whether m led to k: k covers m, and is not the same
+  -- whether m led to k, by the stamps: k covers m, and is not the same
   abbrev pub stamps_say : Letter B → Letter B → Bool
   stamps_say m k = covers k.stamp m.poster (number_of m) && not (same_letter m k)
 
@@ -59,7 +59,7 @@ module _ {B : Type 0} where
   abbrev pub TellsLedTo : Letter B → Letter B → Bool → Type 0
   TellsLedTo m k r = AtAllTimes {B = B} (λ N Q w h. m ∈ posted_letters h → k ∈ posted_letters h → Decides r (LedTo h m k))
 
--- Every log is in order, and every letter is the one that was posted; told by names, the same letters led to one another.
+-- Every log is in order, and every letter is the one that was posted; by their names, the same letters led to one another.
 pub record CausalOrder (B : Type 0) : Type 0 where
   pub in_order : AtAllTimes {B = B} (λ N Q w h. (s : ℕ) → InOrder s h (w.box s).log)
   -- a log is what was posted or shown there, in that order

@@ -16,7 +16,7 @@ pub fn causal_order_holds<B: Copy>() -> bool
     true
 }
 
-// Whether m led to k (happened before it), told from their stamps alone: right wherever both were posted in one room. Every
+// Whether m led to k (happened before it), by their stamps alone: right wherever both were posted in one room. Every
 // log is in causal order, and any two logs of a room, and any beginnings of them, are fit to be drawn up on sheets that agree.
 pub fn led_to<B: Copy>(m: &Letter<B>, k: &Letter<B>) -> bool
     ensures answer { result ≡ stamps_say m.now k.now }
@@ -28,8 +28,7 @@ pub fn led_to<B: Copy>(m: &Letter<B>, k: &Letter<B>) -> bool
     was_known(m, k)
 }
 
-// Whether k covers m and is another letter. A function of its own, since it returns at two places, and each would have to
-// carry the theorems of the one above.
+// Whether k covers m and is another letter.
 fn was_known<B: Copy>(m: &Letter<B>, k: &Letter<B>) -> bool
     ensures { result ≡ stamps_say m.now k.now }
 {

@@ -1,4 +1,4 @@
--- What is read of a chunk.
+-- What filling a chunk reads.
 use Rattle.std.specs.Prelude.{ℕ, ◌<◌, ◌≤◌, List, length, take, Option}
 use Rattle.std.specs.Io.KnownBytes.{Consumes, IsAtEnd}
 

@@ -9,7 +9,7 @@ use std::io;
 use std::io::Read;
 
 // Fills the chunk as far as the input goes, and answers how many bytes were read: all that the chunk has room for, or fewer
-// at the end of the input, which is 0 where nothing is left. A read that fails is no end: its error is answered, whatever was
+// at the end of the input, which is 0 where nothing is left. Where a read fails, its error is answered, whatever was
 // read before it, which stands at the front of the chunk. An interrupted read is a failed one.
 pub fn fill<R: Read>(input: &mut R, chunk: &mut [u8]) -> io::Result<usize>
     ensures filled { IfOk result (λ n. Filled (R.remaining input.old) (R.remaining input.new) chunk.new n) }

@@ -1,4 +1,4 @@
--- What a carrier's contract tells its user.
+-- What follows for a user of a carrier from its contract.
 use Rattle.std.proofs.Common.{inl, ◌⊎◌, ◌≡◌, ℕ, zero, suc, ◌<◌, true, false, ◌&&◌, ◌==◌, List, [], ◌++◌, length, get_or, replicate, Ok, Err, OnOk, Result, sym, refl, ap, ◌∙◌, subst, ⊎_elim, arith, length-append}
 use lib.ListN.{length-replicate}
 use Rattle.std.specs.List.{AllByRecursion as All}
@@ -62,16 +62,16 @@ module _ {L : Type 0} (x : L) where
       some in
       rw (put_ok m poster h f, lt-ltb seat m.seats l, waits) refl
 
--- no answer is a yes and a no
+-- no answer both accepts and refuses
 no_yes : {w : Reason} → ◌≡◌ {A = Result (Unit {0}) Reason} (Err w) (Ok tt) → ⊥
 no_yes e = let z : ◌≡◌ {A = ℕ} 0 1 = cc in omega arith
 
--- what follows a yes, of an answer that is one
+-- what holds where an answer accepts, of an answer that accepts
 pub after_yes : (r : Result (Unit {0}) Refusal) (P : Type 0) → told (λ u. u) r ≡ Ok tt → OnOk r P → P
 after_yes (Ok u) P took p = p
 after_yes (Err why) P took p = absurd (no_yes took)
 
--- and of a no there is nothing to show
+-- and of its refusal there is nothing to show
 pub on_no : (r : Result (Unit {0}) Refusal) (P : Type 0) → told (λ u. u) r ≡ Ok tt → OnErr r P
 on_no (Ok u) P took = tt
 on_no (Err why) P took = absurd (no_yes took)

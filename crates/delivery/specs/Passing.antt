@@ -1,4 +1,4 @@
--- What comes of a put and of a draw after it.
+-- What a put and a draw after it answer and leave.
 use Rattle.std.specs.Prelude.{◌≡◌, ℕ, not, ◌&&◌, map, Ok, Err, Result, ◌==◌, nat_lt, slice_index_or}
 use Rattle.letters.specs.declared.letter.Letter.{Letter}
 use Rattle.letters.specs.declared.parts.Parts.{Parts}
@@ -7,12 +7,12 @@ use Rattle.letters.specs.Refusals.{Reason, unless}
 use Rattle.carriers.specs.Lines.{lines_answer}
 use Rattle.carriers.specs.Meaning.{Drawn, Meaning, PutOn, put_answer, waits_at}
 
--- a first answer, and where it is a yes the one after it
+-- a first answer, and where it accepts the one after it
 abbrev pub and_then : Result (Unit {0}) Reason → Result (Unit {0}) Reason → Result (Unit {0}) Reason
 and_then (Ok _) later = later
 and_then (Err why) later = Err why
 
--- what is in lent parts: new ones after a yes, else those that were there
+-- what is in lent parts: new ones where the answer accepts, else those that were there
 abbrev pub parts_by : {P : Type 0} → Result (Unit {0}) Reason → P → P → P
 parts_by (Ok _) new old = new
 parts_by (Err _) new old = old
@@ -27,7 +27,7 @@ pass_answer m poster seat =
 
 -- C is the carrier: `meaning` says what it means, and `puts` what one put of it does.
 module _ {B C : Type 0} (meaning : C → Meaning (Letter B)) (puts : C → Letter B → C → Type 0) where
-  -- By a yes, one put led to a carrier `mid`, from which the seat drew the first that waited there; by a no nothing moved. after
+  -- Accepted: one put led to a carrier `mid`, from which the seat drew the first that waited there. Refused: nothing moved. after
   -- and filled are what is left in the end.
   abbrev pub Passes : {E : Type 0} → Result (Unit {0}) E → C → Letter B → ℕ → Parts B → C → Parts B → Type 0
   Passes (Ok _) c x seat lent after filled =

@@ -1,4 +1,4 @@
--- What it says that every check passed, and where checks look.
+-- What follows where every check passed, and where checks look.
 use Rattle.std.specs.Prelude.{◌≡◌, ℕ, zero, suc, ◌+◌, ◌<◌, ◌≤◌, Bool, true, false, not, cond, ◌⊎◌, List, [], ◌∷◌, length, Some, None, Option, slice_index, refl}
 use Rattle.std.specs.List.{position, position_from}
 use Rattle.std.specs.Option.{option_map}

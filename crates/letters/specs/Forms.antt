@@ -2,17 +2,16 @@
 use Rattle.std.specs.Prelude.{◌≡◌, ℕ, ◌<◌, ◌≤◌, Bool, true, List, length, Some, None, Option, slice_index}
 use Rattle.letters.specs.declared.body.TheConstants.{BODY_SPACE}
 
--- What a type of bodies says of its bytes. A type may have bodies of several kinds: a kind is told by its byte.
+-- What a type of bodies gives about its bytes. A type may have bodies of several kinds, each with a byte of its own.
 pub record Form (B : Type 0) : Type 0 where
-  -- the byte that tells a body's kind
+  -- the byte of a body's kind
   pub kind : B → ℕ
-  -- a body's bytes
   pub bytes : B → List ℕ
   -- whether the type has bodies of the kind
   pub has_kind : ℕ → Bool
   -- whether a body of the kind can have so many bytes
   pub has_length : ℕ → ℕ → Bool
-  -- the first byte at which a list is no body of the kind
+  -- the first byte at which a list is not a body of the kind
   pub wrong : ℕ → List ℕ → Option ℕ
   -- Of a kind, a length and a place: where that begins which is looked at together with the byte at the place. A byte that is
   -- looked at alone begins itself, and so does the first byte of a number.

@@ -24,7 +24,7 @@ strike_wrong bs =
     (check (nat_lt (slice_index bs 1) 16) 1
     (check (nat_lt 0 (number_16 2 bs)) 2 None))
 
--- the first byte at which a list is no job
+-- the first byte at which a list is not a job
 abbrev pub job_wrong : List ℕ → Option ℕ
 job_wrong bs = cond (length bs == 5) (add_wrong bs) (cond (length bs == 4) (strike_wrong bs) (Some 0))
 
@@ -58,7 +58,7 @@ job_form = record {
   body = λ k bs. job_of bs;
 }
 
--- what a job is to its reader: the code of an addition, or the name of the letter that is struck
+-- what a caller sees of a job: the code of an addition, or the name of the letter that is struck
 pub data Said : Type 0 where
   adds : ℕ → Said
   strikes : Name → Said

@@ -1,4 +1,4 @@
--- A job's bytes tell which job it is, and are right.
+-- A job's bytes determine the job, and pass its checks.
 use Rattle.std.specs.Prelude.{◌≡◌, ℕ, ◌+◌, ◌*◌, ◌/◌, ◌%◌, ◌<◌, ◌≤◌, zero, suc, Bool, true, false, cond, ◌&&◌, ltb, List, ◌∷◌, length, Some, None, ◌==◌, nat_lt, slice_index, refl}
 use Rattle.std.proofs.Common.{lit<, ap, sym, ◌∙◌, subst, ⊎_elim, arith}
 use Rattle.std.proofs.lemmas.Bool.{lt-ltb, ltb-true, ltb-false, eqb-true, eqb-false, and_from, or_cases, true≢false}

@@ -1,4 +1,4 @@
--- What letters are called.
+-- The names of letters.
 use Rattle.std.specs.Prelude.{ℕ, Bool, ◌&&◌, List, ◌++◌, Ok, Result, nat_lt, codes, decimal}
 use Rattle.letters.specs.declared.letter_id.LetterId.{LetterId}
 use Rattle.letters.specs.Refusals.{Reason, unless}

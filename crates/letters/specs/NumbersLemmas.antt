@@ -21,7 +21,7 @@ bytes_of_32_back a b c d ha hb hc =
     let e2 : n / 65536 % 256 ≡ c = rest_mod n (c + d * 256) c 65536 (omega arith) (omega arith) in
     let e3 : n / 16777216 ≡ d = omega arith in cc
 
--- a number's bytes make it up again
+-- the two bytes of a number give it back
 pub made_up_16 : (n : ℕ) → n % 256 + n / 256 * 256 ≡ n
 made_up_16 n = omega arith
 

@@ -9,7 +9,7 @@ abbrev pub each_below : (ℕ → Bool) → ℕ → Bool
 each_below test zero = true
 each_below test (suc n) = test n && each_below test n
 
--- a stamp covers p.n when its entry at p has come to n
+-- a stamp covers p.n when its entry at p is at least n
 abbrev pub covers : Stamp → ℕ → ℕ → Bool
 covers s p n = nat_le n (entry_at s p)
 
@@ -48,7 +48,7 @@ module _ {B : Type 0} where
     pub next : number_of m ≡ clock m.poster + 1
     pub known : (p : ℕ) → ¬ (p ≡ m.poster) → entry_at m.stamp p ≤ clock p
 
-  -- the entry at p is the poster's own, or the clock has come to it
+  -- the entry at p is the poster's own, or is at most the clock's
   abbrev pub known_at : Stamp → Letter B → ℕ → Bool
   known_at clock m p = p == m.poster || nat_le (entry_at m.stamp p) (entry_at clock p)
 

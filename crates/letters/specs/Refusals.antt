@@ -1,4 +1,4 @@
--- The numbers that go with a no.
+-- The numbers of refusals.
 use Rattle.std.specs.Prelude.{ℕ, Bool, true, false, List, [], Ok, Err, Result}
 use Rattle.letters.specs.declared.refusal.Refusal.{Refusal}
 use Rattle.letters.specs.declared.refusal.Refusal.TheVariants.{
@@ -24,12 +24,12 @@ use Rattle.letters.specs.declared.refusal.Refusal.TheVariants.{
   BadRecord,
 }
 
--- what a caller is told with a no: its number, and the values that come with it
+-- what a refusal gives its caller: its number, and the values that come with it
 pub record Reason : Type 0 where
   pub number : ℕ
   pub values : List ℕ
 
--- a number that comes alone
+-- a number without values
 abbrev pub plain : ℕ → Reason
 plain n = record { number = n; values = [] }
 
@@ -56,7 +56,7 @@ reason SheetFull = plain 18
 reason LetterMissing = plain 19
 reason BadRecord = plain 20
 
--- an answer as its caller sees it: what is to see of the value, or the reason of the no
+-- an answer as its caller sees it: the view of its value, or the reason of its refusal
 abbrev pub told : {X Y : Type 0} → (X → Y) → Result X Refusal → Result Y Reason
 told view (Ok x) = Ok (view x)
 told view (Err why) = Err (reason why)

@@ -32,7 +32,7 @@ module _ (bs : List ℕ) (clean : is_some (text_wrong bs) ≡ false) where
       let zeros = length-replicate {A = ℕ} (LONGEST_TEXT - length bs) 0 in
       omega (arith, short)
 
-  -- the text of bytes that are one's
+  -- the text of bytes in which nothing is wrong
   unfoldable pub text_made : Text
   text_made = record {
     chars = padded LONGEST_TEXT bs;

@@ -1,4 +1,4 @@
--- A text's bytes tell which text it is, and are right.
+-- A text's bytes determine the text, and pass its checks.
 use Rattle.std.specs.Prelude.{◌≡◌, ℕ, zero, suc, ◌+◌, ◌-◌, ◌<◌, ◌≤◌, Bool, true, false, List, [], ◌∷◌, ◌++◌, length, take, replicate, is_some, Some, None, Option, nat_le, slice_index, refl}
 use Rattle.std.proofs.Common.{ap, sym, ◌∙◌, arith}
 use Rattle.std.proofs.lemmas.List.{take-append-drop, length-take-le, length-replicate}

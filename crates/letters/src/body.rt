@@ -16,8 +16,8 @@ pub fn padded(front: &[u8]) -> [u8; BODY_SPACE]
     bytes
 }
 
-// A type of bodies. Records are written and read once for all of them, by what each says here of its kinds and bytes.
-// A kind is the byte that a record has for it, and no enum: any crate may bring a type of bodies with kinds of its own.
+// A type of bodies. The same code writes and reads the records of all of them, by the functions below.
+// A kind is the byte that a record has for it. Any crate may bring a type of bodies with kinds of its own.
 pub trait Body: Copy {
     ghost form: { Form Self };
 
@@ -43,7 +43,7 @@ pub trait Body: Copy {
         ensures kind { form.kind result ≡ kind }
         ensures bytes { form.bytes result ≡ bytes.now };
 
-    // The byte that tells this body's kind.
+    // The byte of this body's kind.
     fn kind(&self) -> u8
         ensures { result ≡ form.kind self.now };
 

@@ -10,7 +10,7 @@ use crate::body::{BODY_SPACE, Body, padded};
 use crate::letter_id::LetterId;
 use crate::refusal::Refusal;
 
-// A job to do, with its code, or the taking off of one.
+// A job to do, with its code, or a strike, which takes one off the list.
 #[derive(Clone, Copy)]
 pub enum Job {
     // opens the job that has this letter's name
@@ -20,7 +20,7 @@ pub enum Job {
 }
 
 impl Job {
-    // The strike of a letter that can be; 20 where the poster is no seat or the number is 0.
+    // The strike of the letter of this poster and number; 20 where the poster is no seat or the number is 0.
     pub fn strike(poster: u8, number: u16) -> Result<Job, Refusal>
         ensures { told said result ≡ strike_answer poster number }
     {

@@ -1,4 +1,3 @@
-// A letter.
 ghost use Rattle.std.specs.Prelude.{◌≡◌, ◌<◌, length, slice_index, ⊤};
 
 use crate::stamp::Stamp;

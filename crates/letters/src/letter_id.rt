@@ -1,4 +1,4 @@
-// What a letter is called.
+// Names of letters.
 ghost use Rattle.std.specs.Prelude.{◌<◌};
 
 mod naming;

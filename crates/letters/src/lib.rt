@@ -1,4 +1,4 @@
-// Letters: who posted them, when, and what they carry; and why a call says no.
+// Letters: who posted them, when, and what they carry; and why a call refuses.
 #![tactic(auto)]
 
 pub mod body;

@@ -1,11 +1,11 @@
-// Why a call says no.
+// Why a call refuses.
 ghost use Rattle.std.specs.Prelude.{◌≡◌, Some, decimal};
 ghost use Rattle.letters.specs.Refusals.{reason};
 
 use std::error::Error;
 use std::fmt;
 
-// A refusal. Its number stands in the definition `reason`, and is what a person is told.
+// A refusal. Its number stands in the definition `reason`, and is what is printed.
 #[derive(Clone, Copy, Debug, PartialEq, Eq)]
 pub enum Refusal {
     // the quota is 0 or above 256
@@ -51,7 +51,7 @@ pub enum Refusal {
 }
 
 impl Refusal {
-    // The number that goes with the no.
+    // 1 to 20, as docs/REFUSALS.md lists them.
     pub fn number(self) -> u8
         ensures { result ≡ (reason self).number }
     {

@@ -1,4 +1,3 @@
-// A text.
 ghost use Rattle.std.specs.Prelude.{◌≡◌, ◌-◌, ◌≤◌, false, length, take, drop, replicate, is_some};
 ghost use Rattle.letters.specs.declared.text.TheConstants.{LONGEST_TEXT};
 ghost use Rattle.letters.specs.Characters.{text_wrong};
@@ -11,7 +10,7 @@ pub mod reading;
 pub const LONGEST_TEXT: usize = BODY_SPACE;
 
 // A line of text: up to sixty printable characters, with zeros after them.
-// The characters stand in an array with their number beside them, and in no `String`: letters are copied, in fixed memory.
+// The characters stand in an array, with how many there are: letters are copied, in fixed memory.
 #[derive(Clone, Copy)]
 pub struct Text {
     chars: [u8; LONGEST_TEXT],

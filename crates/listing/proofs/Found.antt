@@ -1,4 +1,4 @@
--- What a reader answered tells what it found.
+-- What a reader answered determines what it found.
 use Rattle.std.proofs.lemmas.Bool.{eqb-true}
 use Rattle.std.proofs.Common.{◌≡◌, ℕ, List, [], ◌∷◌, length, cond, Bool, true, false, arith, Some, None, Ok, Err, Option, Result, ◌==◌, slice_index, refl, sym, ap, ◌∙◌, ◌+◌, ◌*◌, ◌<◌, drop, drop-drop}
 use Rattle.std.proofs.lemmas.List.{length-drop}
@@ -15,7 +15,7 @@ use Rattle.records.specs.Readers.{Found, NextRead, ahead, at_end, right, wrong, 
 use Rattle.records.specs.Reading.{Begins}
 use Rattle.records.specs.Records.{wrong_front}
 
--- what an answer tells
+-- what was found, by an answer
 abbrev pub told_found : Result (Option ℕ) Reason → Found
 told_found (Ok (Some index)) = right
 told_found (Ok None) = at_end

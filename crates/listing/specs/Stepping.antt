@@ -7,7 +7,7 @@ use Rattle.records.specs.declared.reader.Reader.{Reader}
 use Rattle.records.specs.Readers.{NextRead, ahead, found}
 use Rattle.listing.specs.Lines.{step_line}
 
--- the reader was asked once, also where memory ran out afterwards; its answer is what is told
+-- the reader's `next` was called once, also where memory ran out afterwards; its answer is the one in the line
 pub record AskedOnce {B E : Type 0} (form : Form B) (before after : Reader B) (old new : Parts B) (told : Result (Result (Option ℕ) Fault) E) : Type 0 where
   pub read : Result (Option ℕ) Fault
   pub reads : NextRead form before after old new read

@@ -115,7 +115,7 @@ fn run(rt: &HostRuntime) -> Result<(), Failure> {
     list_asked(rt.alloc(), &args, &mut rt.stdin(), &mut io::writer(rt))
 }
 
-// A failure is told on the standard error, and ends the program with status 1.
+// A failure is printed on the standard error, and ends the program with status 1.
 fn main(rt: HostRuntime) -> ExitCode {
     match run(&rt) {
         Ok(()) => ExitCode::SUCCESS,

@@ -1,4 +1,4 @@
--- Two lists of the same letters, in the order that logs have, come to the same on every kind of sheet.
+-- Two lists of the same letters, in the order that logs have, give the same meaning on every kind of sheet.
 use Rattle.std.proofs.Common.{◌≡◌, ◌≤◌, List, length, Ok, sym, ap, ◌∙◌, arith}
 use Rattle.std.proofs.lemmas.Bool.Decides.{nat_tests}
 use Rattle.letters.specs.declared.letter.Letter.{Letter}
@@ -16,7 +16,7 @@ use Rattle.lives.specs.Keeps.{Agree}
 pub same_named : {B : Type 0} (m k : Letter B) → letter_name m ≡ letter_name k → SameLetter m k
 same_named m k e = record { poster = ap (λ (i : Name). i.poster) e; number = ap (λ (i : Name). i.number) e }
 
--- what drawing up a list has tested, and what it comes to
+-- what drawing up a list has tested, and what it results in
 record Drawn {M B : Type 0} (kind : Kind M B) (l : List (Letter B)) (m : M) : Type 0 where
   fits : length l ≤ kind.places
   is : m ≡ drawn_up kind l

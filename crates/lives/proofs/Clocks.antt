@@ -1,4 +1,4 @@
--- A seat's log that gains a letter, and a room of which one seat is told.
+-- A seat's log that gains a letter, and a room of which one seat is written.
 use Rattle.std.proofs.Common.{◌≡◌, ℕ, ◌+◌, ◌*◌, ◌<◌, ◌≤◌, length, arith}
 use Rattle.std.proofs.lemmas.List.{length-set}
 use Rattle.std.proofs.lemmas.List.Sums.{sum_by-set}

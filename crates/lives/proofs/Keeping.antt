@@ -34,7 +34,7 @@ use Rattle.seats.proofs.Tables.{length_part}
 use Rattle.lives.proofs.Taking.{a_stray}
 use Rattle.lives.proofs.Views.{box_of, no_box, view}
 
--- lists that are told by what a function makes of each element
+-- lists of what a function makes of each element
 module _ {X Y : Type 0} (f : X → Y) where
   in_map : {x : X} {l : List X} → x ∈ l → f x ∈ map f l
   in_map (here e) = here (ap f e)
@@ -50,7 +50,7 @@ module _ {X Y : Type 0} (f : X → Y) where
   of_map y (x ∷ l) (here e) = record { one = x; inside = here refl; is = e }
   of_map y (x ∷ l) (there i) = let r = of_map y l i in record { one = r.one; inside = there r.inside; is = r.is }
 
--- a yes that comes after a check, and the yes of a check of places
+-- an answer that accepts after a check, and one after a check of places
 followed : {X : Type 0} (check : Result (Unit {0}) Reason) (r : Result X Reason) (x : X) → follows check r ≡ Ok x → r ≡ Ok x
 followed (Ok done) r x e = e
 followed (Err why) r x e = let z : ◌≡◌ {A = ℕ} 0 1 = cc in absurd (omega arith)
@@ -71,7 +71,7 @@ among_posted s m (posted t k ∷ h) (there i) = there (among_posted s m h i)
 among_posted s m (shown t k ∷ h) (here e) = absurd cc
 among_posted s m (shown t k ∷ h) (there i) = among_posted s m h i
 
--- what was seen was seen where the events are told by names
+-- what was seen was seen where names stand for the letters in the events
 seen_as : {A L : Type 0} (f : A → L) (s : ℕ) (i : L) (x : A) (h : History A) → Seen s x h → f x ≡ i → Seen s i (told f h)
 seen_as f s i x [] seen e = seen
 seen_as f s i x (posted t k ∷ h) (inl at) e = inl (at.0, sym e ∙ ap f at.1)

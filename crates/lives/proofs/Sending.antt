@@ -50,7 +50,7 @@ three_yes (Err why) b o x e = absurd cc
 pub called : {B : Type 0} (p n : ℕ) (m : Letter B) → is_called p n m ≡ true → (m.poster ≡ p) × (number_of m ≡ n)
 called p n m e = (grind (arith, nat_tests), grind (arith, nat_tests))
 
--- the letter that there is to send has the name that the docket tells
+-- the letter that there is to send has the name that the docket gives
 pub letter_called : {B : Type 0} (w : Moment B) (d : Slip) (m : Letter B) → Ok m ≡ letter_at w d → letter_name m ≡ name d.seat d.number
 letter_called w d m e =
     let log = log_of w.room w.logs d.seat in

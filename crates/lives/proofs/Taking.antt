@@ -25,7 +25,7 @@ use Rattle.lives.proofs.Sending.{called}
 use Rattle.lives.proofs.Splits.{Nth, first_at, none_passes}
 use Rattle.lives.proofs.Views.{at_seat, box_of, elsewhere, log_else, view}
 
--- what a check that says yes has tested
+-- what a check that accepts has tested
 pub record Takeable {B : Type 0} (st : RoomState) (holds : ℕ) (c : Meaning (Letter B)) (s place : ℕ) : Type 0 where
   pub inside : s < st.count
   pub long : start st st.count ≤ holds

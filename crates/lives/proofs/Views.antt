@@ -1,4 +1,4 @@
--- A room with its tables and its carrier as a world of boxes, and how that changes when one seat is told something.
+-- A room with its tables and its carrier as a world of boxes, and how that changes when one seat is written.
 use Rattle.std.proofs.Common.{◌≡◌, ℕ, ◌<◌, cond, ltb, List, [], take, drop, ap, ◌∙◌, arith}
 use Rattle.letters.specs.declared.letter.Letter.{Letter}
 use Rattle.carriers.specs.Meaning.{Meaning}
@@ -29,7 +29,7 @@ module _ {B : Type 0} where
   abbrev pub no_box : Box B
   no_box = record { clock = λ p. 0; log = []; hold = []; docket = Clear }
 
-  -- rooms say nothing past their seats
+  -- a room has no boxes past its seats
   abbrev pub view : Moment B → World B
   view w = record {
     box = λ s. cond (ltb s w.room.count) (box_of w s) no_box;

@@ -1,4 +1,4 @@
--- What is kept at all times of a room's life, told by its trace and by what can be seen: logs, holds, and what waits.
+-- What is kept at all times of a room's life, in terms of its trace and of what can be seen: logs, holds, and what waits.
 use Rattle.std.specs.Prelude.{◌≡◌, ℕ, ◌*◌, ◌<◌, ◌≤◌, false, ◌↔◌, List, [], ◌∷◌, ◌++◌, map, length, take, Ok}
 use Rattle.letters.specs.declared.letter.Letter.{Letter}
 use Rattle.letters.specs.Letters.{letter_name}
@@ -93,7 +93,7 @@ module _ {M B : Type 0} (kind : Kind M B) where
     pub drawn : (s t : ℕ) → s < w.room.count → t < w.room.count → DrawnAlike w s t
     pub sheets : (s t : ℕ) → s < w.room.count → t < w.room.count → Agree (log_at w s) (log_at w t)
     pub beginnings : (s t : ℕ) → s < w.room.count → t < w.room.count → (i j : ℕ) → Agree (take i (log_at w s)) (take j (log_at w t))
-    -- stamps tell happens-before: of two letters in logs, one led to the other exactly when the other covers it and is not the same
+    -- stamps decide happens-before: of two letters in logs, one led to the other exactly when the other covers it and is not the same
     pub stamps : (s t : ℕ) → s < w.room.count → t < w.room.count → (m k : Letter B) → m ∈ log_at w s → k ∈ log_at w t
         → LedTo (events trace) (letter_name m) (letter_name k) ↔ (CoversLetter k m × ¬ (SameLetter m k))
     -- what waits for a seat, or is held there, is the very letter that was posted; and what waits would not be stray

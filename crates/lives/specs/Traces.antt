@@ -1,4 +1,4 @@
--- What was asked of a room and what it answered, and what happened by that: no word of stamps.
+-- What was asked of a room and what it answered, and what happened by that, without stamps.
 use Rattle.std.specs.Prelude.{ℕ, List, [], ◌∷◌, Ok, Err, Result}
 use Rattle.letters.specs.declared.refusal.Refusal.{Refusal}
 use Rattle.letters.specs.Names.{Name, name, name_of}
@@ -15,7 +15,7 @@ use Rattle.lives.specs.declared.reply.Reply.TheVariants as replies
 pub data Answer : Type 0 where
   -- a docket, by post and collect
   docket : Slip → Answer
-  -- yes, by send and park
+  -- accepted, by send and park
   done : Answer
   -- stray, repeat or held, and which letter, by take
   taken : Taking → Name → Answer
@@ -40,7 +40,7 @@ abbrev pub shows : Result Name Reason → Answer
 shows (Ok i) = showed i
 shows (Err why) = refused why
 
--- the answer of a step that was made; f tells the numbers of a docket
+-- the answer of a step that was made; f gives the numbers of a docket
 abbrev pub replied : {D : Type 0} → (D → Slip) → Reply D → Answer
 replied f (replies.Docket d) = docket (f d)
 replied f replies.Done = done
@@ -66,7 +66,7 @@ pub record Posting (B : Type 0) : Type 0 where
   pub name : Name
   pub body : B
 
--- an accepted post posted a letter, whose number the docket tells
+-- an accepted post posted a letter, whose number is in the docket
 abbrev pub by_post : ℕ → Answer → History Name → History Name
 by_post s (docket d) past = posted s (name s d.number) ∷ past
 by_post s done past = past
@@ -94,7 +94,7 @@ module _ {B : Type 0} where
   abbrev pub made : Move B Slip → Answer → Made B
   made move answer = record { move = move; answer = answer }
 
-  -- the trace after these steps were made in turn; f tells the answers
+  -- the trace after these steps were made in turn; f gives the answers
   abbrev pub traced : {X : Type 0} → (X → Answer) → Trace B → List (Move B Slip) → List X → Trace B
   traced f past [] answers = past
   traced f past (move ∷ later) [] = past
@@ -112,7 +112,7 @@ module _ {B : Type 0} where
   happened (moves.Take s place) answer past = past
   happened (moves.Show s) answer past = by_show s answer past
 
-  -- what happened in a room: its events, told by the names of the letters, the newest first
+  -- what happened in a room: its events, by the names of the letters, the newest first
   abbrev pub events : Trace B → History Name
   events [] = []
   events (step ∷ trace) = happened step.move step.answer (events trace)

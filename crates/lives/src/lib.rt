@@ -1,4 +1,4 @@
-// The lives of rooms: what the steps on a room come to from its opening on, and what is kept at all times.
+// The lives of rooms: what the steps on a room result in from its opening on, and what is kept at all times.
 #![tactic(auto)]
 
 pub mod laws;

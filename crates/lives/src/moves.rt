@@ -1,6 +1,6 @@
 // What can be asked of a room.
 
-// A step with what it brings: data, so that steps can be listed and read in, and no closure. What it brings of a docket, D,
+// A step with what it brings, as data, so that steps can be listed and read in. What it brings of a docket, D,
 // is the docket itself, which a caller has in hand, or its numbers, as in a list of steps.
 #[derive(Clone, Copy)]
 pub enum Move<B, D> {

@@ -1,4 +1,4 @@
--- What the steps of a pair come to, by those of its two carriers.
+-- What the steps of a pair do, by those of its two carriers.
 use Rattle.std.proofs.Common.{inl, inr, ◌≡◌, ℕ, ◌+◌, ◌-◌, ◌^◌, ◌<◌, ◌≤◌, min, true, ◌++◌, map, length, get_or, Ok, Err, OnOk, Result, sym, refl, ap, ◌∙◌, subst, ⊎_elim, arith, length-append}
 use Rattle.std.specs.List.{remove}
 use Rattle.std.specs.Result.{OnErr}
@@ -13,7 +13,7 @@ use Rattle.carriers.proofs.Removed.{removed_left, removed_right}
 use Rattle.pair.specs.Pairs.{DrawsOne, joined, both}
 use Rattle.pair.specs.PairLaws.{both_level}
 
--- no answer is a yes and a no
+-- no answer both accepts and refuses
 no_yes : {w : Reason} {X : Type 0} → ◌≡◌ {A = Result (Unit {0}) Reason} (Err w) (Ok tt) → X
 no_yes e = let z : ◌≡◌ {A = ℕ} 0 1 = cc in absurd (omega arith)
 
@@ -23,7 +23,7 @@ once_both (Ok u) (Ok v) P Q took p q = (p, q)
 once_both (Ok u) (Err why) P Q took p q = tt
 once_both (Err why) r₂ P Q took p q = no_yes took
 
--- nothing is asked of a no where the answer is a yes
+-- nothing is to show of a refusal where the answer accepts
 pub on_no : (r : Result (Unit {0}) Refusal) (P : Type 0) → told (λ u. u) r ≡ Ok tt → OnErr r P
 on_no (Ok u) P took = tt
 on_no (Err why) P took = no_yes took

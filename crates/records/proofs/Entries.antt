@@ -77,7 +77,8 @@ number_written (n ∷ entries) (suc k) h =
     omega arith
 
 -- and so in a record that begins with these bytes
-pub number_front : (entries bs : List ℕ) (k : ℕ) → written entries ≡ take STAMP_SIZE bs → STAMP_SIZE ≤ length bs → k < 16 → number_16 (2 * k) bs ≡ get_or entries k 0
+pub number_front : (entries bs : List ℕ) (k : ℕ) → written entries ≡ take STAMP_SIZE bs → STAMP_SIZE ≤ length bs → k < 16
+    → number_16 (2 * k) bs ≡ get_or entries k 0
 number_front entries bs k e long h =
     let sized : 2 * length entries ≡ STAMP_SIZE = sym (length_written entries) ∙ ap length e ∙ length-take-le STAMP_SIZE bs long in
     let low : get_or (take STAMP_SIZE bs) (2 * k) 0 ≡ get_or bs (2 * k) 0 = get_or-take STAMP_SIZE bs (2 * k) 0 (omega arith) in

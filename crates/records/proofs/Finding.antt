@@ -21,7 +21,7 @@ abbrev byte_of : Result (Unit {0}) Reason → ℕ
 byte_of (Ok done) = 0
 byte_of (Err why) = get_or why.values 1 0
 
--- what a read answered tells what was found
+-- what a read answered determines what was found
 pub answered_wrong : (fault : Fault) (f : Option ℕ) → Err (fault_reason fault) ≡ read_answer f → f ≡ Some fault.byte
 answered_wrong fault None e = let z : ◌≡◌ {A = ℕ} 0 1 = cc in absurd (omega arith)
 answered_wrong fault (Some place) e = ap Some (sym (ap byte_of e))

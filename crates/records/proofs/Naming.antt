@@ -369,7 +369,8 @@ module _ {B : Type 0} (form : Form B) (laws : Lawful form) where
                   let b = wrong.before in
                   let back : BODY_PLACE + j - BODY_PLACE ≡ j = omega arith in
                   let own : turn form bs (BODY_PLACE + j) ≡ BODY_PLACE + j =
-                  turn_body (BODY_PLACE + j) (omega arith) (omega (arith, wrong.inside)) ∙ ap (λ i. BODY_PLACE + starts i) back ∙ ap (λ i. BODY_PLACE + i) wrong.own in
+                  turn_body (BODY_PLACE + j) (omega arith) (omega (arith, wrong.inside)) ∙ ap (λ i. BODY_PLACE + starts i) back
+                  ∙ ap (λ i. BODY_PLACE + i) wrong.own in
                   let letter : Letter B = given b.0 in
                   let fits : Fits letter (BODY_PLACE + j) = record {
                     few = omega (arith, wrong.inside, room);
@@ -391,11 +392,13 @@ module _ {B : Type 0} (form : Form B) (laws : Lawful form) where
                         wrong.never m.body kind size
                         (λ i h l.
                         let at : BODY_PLACE + i - BODY_PLACE ≡ i = omega arith in
-                        let t : turn form bs (BODY_PLACE + i) ≡ BODY_PLACE + starts i = turn_body (BODY_PLACE + i) (omega arith) (omega arith) ∙ ap (λ k. BODY_PLACE + starts k) at in
+                        let t : turn form bs (BODY_PLACE + i) ≡ BODY_PLACE + starts i =
+                        turn_body (BODY_PLACE + i) (omega arith) (omega arith) ∙ ap (λ k. BODY_PLACE + starts k) at in
                         sym (in_body m i (omega arith)) ∙ agree (BODY_PLACE + i) (omega (arith, own, t)) ∙ sym (body_at i h));
                   }
 
-              rest_wrong : form.wrong (kind_byte bs) (body_part bs) ≡ None → (p : ℕ) → first_failing is_zero (BODY_PLACE + len) (padding bs) ≡ Some p → FirstWrongByte form bs p
+              rest_wrong : form.wrong (kind_byte bs) (body_part bs) ≡ None → (p : ℕ)
+                  → first_failing is_zero (BODY_PLACE + len) (padding bs) ≡ Some p → FirstWrongByte form bs p
               rest_wrong right p e =
                   let fails = fails_at is_zero (BODY_PLACE + len) (padding bs) p e in
                   let sized' : form.has_length (kind_byte bs) (length (body_part bs)) ≡ true = ap (form.has_length (kind_byte bs)) body_long ∙ sized in
@@ -418,7 +421,8 @@ module _ {B : Type 0} (form : Form B) (laws : Lawful form) where
                     rest = λ k h l.
                         let i : ℕ = k - (BODY_PLACE + len) in
                         let here : BODY_PLACE + len + i ≡ k = omega arith in
-                        sym (ap (λ n. get_or bs n 0) here) ∙ sym (padding_at bs i (omega arith)) ∙ eqb-true (get_or (padding bs) i 0) 0 (fails.before i (omega (arith, at)));
+                        sym (ap (λ n. get_or bs n 0) here) ∙ sym (padding_at bs i (omega arith))
+                        ∙ eqb-true (get_or (padding bs) i 0) 0 (fails.before i (omega (arith, at)));
                   } in
                   record {
                     looked_at = omega (arith, own);
@@ -427,7 +431,8 @@ module _ {B : Type 0} (form : Form B) (laws : Lawful form) where
                     never = λ m agree.
                         let same : length (form.bytes m.body) ≡ len = sym (length_is form (parts_of m) m.sized) ∙ agree LENGTH_PLACE (omega (arith, own)) in
                         let here : get_or (padding bs) fails.at 0 ≡ 0 =
-                        padding_at bs fails.at (omega arith) ∙ sym (ap (λ n. get_or bs n 0) at) ∙ sym (agree p (omega arith)) ∙ in_rest m p (omega arith) few in
+                        padding_at bs fails.at (omega arith) ∙ sym (ap (λ n. get_or bs n 0) at) ∙ sym (agree p (omega arith))
+                        ∙ in_rest m p (omega arith) few in
                         eqb-false (get_or (padding bs) fails.at 0) 0 fails.fails here;
                   }
 

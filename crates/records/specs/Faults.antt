@@ -1,4 +1,4 @@
--- The number that goes with a bad record.
+-- The number of a bad record.
 use Rattle.std.specs.Prelude.{ℕ, [], ◌∷◌, Ok, Err, Result}
 use Rattle.letters.specs.Refusals.{Reason}
 use Rattle.records.specs.declared.fault.Fault.{Fault}

@@ -1,4 +1,4 @@
--- Which byte of a refused record is named, told by the records of letters and not by the checks.
+-- Which byte of a refused record is named, defined by the records of letters and not by the checks.
 use Rattle.std.specs.Prelude.{◌≡◌, ℕ, ◌+◌, ◌-◌, ◌/◌, ◌<◌, ◌≤◌, cond, List, length, take, ◌==◌, nat_lt, slice_index}
 use Rattle.letters.specs.declared.letter.Letter.{Letter}
 use Rattle.letters.specs.Forms.{Form}

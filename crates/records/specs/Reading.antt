@@ -1,4 +1,4 @@
--- What reading a record answers and leaves, and that it is the undoing of writing.
+-- What reading a record answers and leaves, and that it undoes writing.
 use Rattle.std.specs.Prelude.{◌≡◌, ℕ, ◌≤◌, List, length, take, Some, None, Ok, Err, Option, Result}
 use Rattle.letters.specs.declared.letter.Letter.{Letter}
 use Rattle.letters.specs.Forms.{Form}
@@ -22,7 +22,7 @@ module _ {B : Type 0} (form : Form B) where
   parts_left bs None old = parts_written form (take RECORD_SIZE bs)
   parts_left bs (Some place) old = old
 
-  -- so of a whole record: parts of which it is the record, or the parts that were there
+  -- the same for a whole record: parts of which it is the record, or the parts that were there
   abbrev pub LeftBy : List ℕ → Parts B → Parts B → Option ℕ → Type 0
   LeftBy bs old new None = parts_record form new ≡ bs
   LeftBy bs old new (Some place) = new ≡ old

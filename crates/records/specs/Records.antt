@@ -62,7 +62,6 @@ module _ {B : Type 0} (form : Form B) where
       stamp_bytes p.stamp
       ++ (p.poster ∷ form.kind p.body ∷ length (form.bytes p.body) ∷ 0 ∷ padded BODY_SPACE (form.bytes p.body))
 
-  -- a letter's record
   abbrev pub record_of : Letter B → List ℕ
   record_of m = parts_record (parts_of m)
 

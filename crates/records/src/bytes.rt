@@ -11,7 +11,6 @@ pub(crate) fn put(out: &mut [u8], at: usize, bytes: &[u8])
     out[at..at + bytes.len()].copy_from_slice(bytes);
 }
 
-// The 16-bit number at a place.
 pub(crate) fn number_at(bytes: &[u8], place: usize) -> u16
     requires { place + 1 < length bytes.now }
     ensures { result ≡ number_16 place bytes.now }

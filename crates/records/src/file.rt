@@ -11,7 +11,6 @@ use letters::body::Body;
 use letters::letter::Letter;
 use letters::refusal::Refusal;
 
-// The first fault of a file.
 fn first_fault<B: Body>(bytes: &[u8]) -> Option<Fault>
     ensures { result ≡ file_fault B.form bytes.now }
 {
@@ -38,7 +37,7 @@ fn fill_table<B: Body>(bytes: &[u8], table: &mut [Letter<B>], count: usize)
 }
 
 // Reads a whole file into the front of a table and answers how many letters there were.
-// It looks first: on a no, the table is as it was.
+// It checks first: on refusal, the table is as it was.
 pub fn load<B: Body>(bytes: &[u8], table: &mut [Letter<B>]) -> Result<usize, LoadRefusal>
     ensures { FileLoaded B.form bytes.now table.old table.new result }
 {

@@ -14,7 +14,6 @@ pub enum LoadRefusal {
 }
 
 impl LoadRefusal {
-    // The number that goes with the no.
     pub fn number(self) -> u8
         ensures { result ≡ (load_reason self).number }
     {

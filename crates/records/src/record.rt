@@ -30,7 +30,7 @@ const BODY_END: usize = BODY_PLACE + BODY_SPACE;
 // How many bytes a record has.
 pub const RECORD_SIZE: usize = BODY_END;
 
-// The letter's record.
+// The record of a letter, RECORD_SIZE bytes.
 pub fn to_record<B: Body>(letter: &Letter<B>) -> [u8; RECORD_SIZE]
     ensures { result ≡ record_of B.form letter.now }
 {
@@ -67,7 +67,7 @@ pub fn read_record<B: Body>(bytes: &[u8], parts: &mut Parts<B>) -> Result<(), Fa
     }
 }
 
-// The same of a whole record: looks first, then fills.
+// The same for a whole record: checks first, then fills.
 fn read_whole<B: Body>(bytes: &[u8; RECORD_SIZE], parts: &mut Parts<B>) -> Result<(), Fault>
     ensures answer { told_fault result ≡ read_answer (wrong_byte B.form bytes.now) }
     ensures left { LeftBy B.form bytes.now parts.old parts.new (wrong_byte B.form bytes.now) }
@@ -168,7 +168,6 @@ fn nonzero_from(bytes: &[u8; RECORD_SIZE], from: u8) -> Option<u8>
     Some(from + place as u8)
 }
 
-// The first byte that is not zero.
 fn first_nonzero(bytes: &[u8]) -> Option<usize>
     ensures { result ≡ position (λ b. not (is_zero b)) bytes.now }
 {

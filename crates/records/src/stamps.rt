@@ -6,7 +6,6 @@ use crate::bytes::number_at;
 use letters::stamp::Stamp;
 use std::array;
 
-// How many bytes a stamp has.
 pub(crate) const STAMP_SIZE: usize = 32;
 
 // The entries in order, the low byte of each first.

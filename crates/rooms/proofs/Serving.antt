@@ -1,4 +1,4 @@
--- Each step does to the carrier itself what its trace tells.
+-- Each step does to the carrier itself what its trace says.
 use Rattle.std.proofs.Common.{◌≡◌, ℕ, List, ◌∷◌, length, Ok, Err, Result, sym, refl, ◌∙◌, subst}
 use Rattle.letters.specs.declared.letter.Letter.{Letter}
 use Rattle.letters.specs.Letters.{letter_name}

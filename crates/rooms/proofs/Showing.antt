@@ -17,7 +17,7 @@ pub closed_up : {X : Type 0} (table table' : List X) (i j k n : ℕ) → i ≡ j
 closed_up table table' i j k n at fits written =
     written ∙ cond-true _ _ _ (lt-ltb (i + k + n) (length table) (omega (arith, at, fits))) ∙ ap (λ p. closed table (p + k) n) at
 
--- a seat that is told of a letter that it shows
+-- a seat that is written for a letter that it shows
 pub told_shown : {B : Type 0} (viewer : Seat) (m : Letter B) (p n : ℕ) (x y : Seat) → y ≡ released x → x ≡ clocked viewer p n → n ≡ number_of m → p ≡ m.poster
     → y ≡ shown_seat viewer m
 told_shown viewer m p n x y release set number poster =
@@ -40,7 +40,7 @@ module _ {B : Type 0} (st : RoomState) (ok : Sound st) (logs s k : ℕ) (holds h
   pub hold_end : start st s + (seat_at st s).held ≤ length holds
   hold_end = can.hold_end
 
-  -- the seat keeps to the room's terms when it is told
+  -- the seat keeps to the room's terms when it is written
   pub told_kept : (p n : ℕ) (y z : Seat) → z ≡ released y → y ≡ clocked (seat_at st s) p n → n ≡ number_of m → p ≡ m.poster → Kept st.count st.quota z × (s < 16)
   told_kept p n y z release set number poster =
       let told = told_shown (seat_at st s) m p n y z release set number poster in

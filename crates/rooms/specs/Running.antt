@@ -54,16 +54,17 @@ module _ {C B : Type 0} (carrier : Ghosts C B) where
       CarriedThrough carrier.meaning carrier.puts carrier.rests (room_moment carrier r logs holds c) c (steps_trace steps replies)
       (room_moment carrier r' logs' holds' c') c'
 
-  -- and of the carrier itself, each accepted send put its letter there once, and nothing else was put
+  -- of the carrier itself: the letter of each accepted send was put on it once, and nothing else was
   abbrev pub StepsServe : C → List (Move B Slip) → StepReplies → C → Type 0
   StepsServe c steps replies c' = Serves carrier.meaning carrier.puts carrier.rests c (steps_trace steps replies) c'
 
-  -- the same two of a whole run, from the opening of a draft on
+  -- the steps of a whole run led from the opening of the draft's room to its last moment
   abbrev pub RunLeads : Draft → List (Letter B) → List (Letter B) → C → List (Move B Slip) → StepReplies
       → Room → List (Letter B) → List (Letter B) → C → Type 0
   RunLeads d logs holds c steps replies r logs' holds' c' =
       Leads (opening_moment d logs holds c) (steps_trace steps replies) (room_moment carrier r logs' holds' c')
 
+  -- and took the carrier itself along from that opening on, each doing to it what such a step does, and nothing else
   abbrev pub RunCarries : Draft → List (Letter B) → List (Letter B) → C → List (Move B Slip) → StepReplies
       → Room → List (Letter B) → List (Letter B) → C → Type 0
   RunCarries d logs holds c steps replies r logs' holds' c' =

@@ -17,7 +17,7 @@ module _ {B C : Type 0} (meaning : C → Meaning (Letter B)) (puts : C → Lette
     pub served : Served meaning puts rests from letters c
     pub named : map letter_name letters ≡ sent trace
 
-  -- by whatever steps the carrier came to be what it was, after this step it is by those and this one
+  -- whatever steps the carrier went through before, after this step it went through those and this one
   abbrev pub ServesOn : Move B Slip → Answer → C → C → Type 0
   ServesOn move answer c c' = (from : C) (trace : Trace B) → Serves from trace c → Serves from (made move answer ∷ trace) c'
 

@@ -4,7 +4,7 @@ use Rattle.letters.specs.declared.letter.Letter.{Letter}
 use Rattle.letters.specs.Names.{Name}
 use Rattle.letters.specs.Refusals.{Reason}
 use Rattle.carriers.specs.declared.carrier.Carrier.{Ghosts}
-use Rattle.carriers.specs.Meaning.{Meaning, draw_answer}
+use Rattle.carriers.specs.Meaning.{draw_answer}
 use Rattle.seats.specs.declared.seat.DocketEvent.TheVariants.{Send}
 use Rattle.seats.specs.declared.slip.Slip.{Slip}
 use Rattle.seats.specs.Outcomes.{DrawRests, PutOf, PutsOnce, Take, Taking, carrier_check, docket_room, send_answer, send_letter, take_check}

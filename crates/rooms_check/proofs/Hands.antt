@@ -31,7 +31,7 @@ posts_or_sends Clear post send = absurd cc
 posts_or_sends Out post send = absurd cc
 posts_or_sends Parked post send = absurd cc
 
--- the number of a room, after a call that tells a seat
+-- the number of a room, after a call that writes a seat
 number_after : {X : Type 0} (st : RoomState) (s : ℕ) (f : X → Seat) (answer : Result X Reason) → (after answer (λ x. with_seat st s (f x)) st).number ≡ st.number
 number_after st s f (Ok x) = refl
 number_after st s f (Err why) = refl
@@ -47,11 +47,11 @@ good_seat : (st : RoomState) (d : Slip) → good_slip st d ≡ true → d.seat <
 good_seat st d good = grind (arith, nat_tests)
 
 module _ (st : RoomState) (d : Slip) (good : good_slip st d ≡ true) where
-  -- another seat is told
+  -- another seat is written
   other_keeps : (s : ℕ) (x : Seat) → d.seat ≢ s → good_slip (with_seat st s x) d ≡ true
   other_keeps s x ne = ap (good_at st d) (get_or-set_other st.seats s d.seat x blank ne) ∙ good
 
-  -- a seat is told what moves neither its docket nor its own entry
+  -- a seat is written, with neither its docket nor its own entry moved
   same_keeps : st.count ≤ length st.seats → (s : ℕ) (x : Seat) → x.docket ≡ (seat_at st s).docket → clock_at x s ≡ clock_at (seat_at st s) s → good_slip (with_seat st s x) d ≡ true
   same_keeps few s x docket clock = ⊎_elim here (other_keeps s x) (cases_eq d.seat s)
     where

@@ -1,5 +1,5 @@
 // Scripts of single calls: tables of any length, any letters in them, dockets in hand, and carriers of any size. Each module
-// stands on the one that it is in, of which it uses what is private there. Here is what a script asks for, and what it is told.
+// stands on the one that it is in, of which it uses what is private there. Here is what a script asks for, and its answers.
 ghost use Rattle.std.specs.Prelude.{◌+◌, ◌<◌, length};
 
 use letters::body::Body;
@@ -18,7 +18,6 @@ use std::{array, fmt, str};
 
 pub mod memory;
 
-// The 16-bit number at a place.
 fn number_at(bytes: &[u8], place: usize) -> u16
     requires { place + 1 < length bytes.now }
 {
@@ -32,7 +31,6 @@ fn wide_at(bytes: &[u8], place: usize) -> u32
     u32::from(number_at(bytes, place)) + 65536 * u32::from(number_at(bytes, place + 2))
 }
 
-// How many bytes a setting has.
 const SETTING_SIZE: usize = 32;
 
 #[derive(Clone, Copy)]
@@ -42,7 +40,7 @@ enum Make {
     Pair,
 }
 
-// How a carrier is made: for how many seats, those of a pair's spool beside them; how many places a queue has; and how many
+// How a carrier is made: for how many seats, and a pair's spool for how many; how many places a queue has; and how many
 // letters and bytes are lent.
 #[derive(Clone, Copy)]
 struct Size {
@@ -210,7 +208,7 @@ const CALL_SIZE: usize = 64;
 
 const STAMP_START: usize = 32;
 
-// What a call asks for, and what it brings: what it asks for tells which of this it needs.
+// What a call asks for, and what it brings; which of this it needs depends on what it asks for.
 #[derive(Clone, Copy)]
 struct ScriptCall {
     asked: Asked,
@@ -305,7 +303,6 @@ fn letter_sum<B: ScriptBody>(letter: &Letter<B>) -> u32 {
         .mixed_into(mixed(sum, u32::from(letter.poster())))
 }
 
-// The sum over the letters of a table.
 fn table_sum<B: ScriptBody>(letters: &[Letter<B>]) -> u32 {
     let mut sum = 0;
     for letter in letters {
@@ -314,7 +311,6 @@ fn table_sum<B: ScriptBody>(letters: &[Letter<B>]) -> u32 {
     sum
 }
 
-// The sum over bytes.
 fn byte_sum(bytes: &[u8]) -> u32 {
     let mut sum = 0;
     for byte in bytes {
@@ -359,7 +355,6 @@ impl ScriptBody for Job {
     }
 }
 
-// The characters of a text.
 fn chars(text: &Text) -> &str {
     str::from_utf8(text.as_bytes()).unwrap_or("?")
 }
@@ -402,7 +397,7 @@ enum AnswerLine {
 }
 
 impl AnswerLine {
-    // Of a call of which nothing more is told than whether it was refused.
+    // Of a call whose line says only whether it was refused.
     fn of<T: Drop>(answer: Result<T, Refusal>) -> AnswerLine {
         match answer {
             Ok(_) => AnswerLine::Done,

@@ -40,8 +40,7 @@ struct Setting {
     size: u32,
 }
 
-// Why a step or the whole run ends early: a call says no, or printing fails.
-// Each program has its own: a crate for an error enum of two cases would be no plainer.
+// Why a step or the whole run ends early: a call refuses, or printing fails.
 #[derive(Drop)]
 enum Stop {
     Refused(Refusal),
@@ -76,8 +75,7 @@ fn tell(rt: &HostRuntime, ended: Result<(), Stop>) -> io::Result<()> {
 }
 
 // The step that twelve bytes write: the call, a seat, a 16-bit number, a 32-bit one, a poster, and zeros.
-// The calls are 1 post an add, 2 post a strike, 3 send, 4 park, 5 collect, 6 take, and show by any other. It is no `TryFrom`:
-// bytes and `Move` are both of other crates.
+// The calls are 1 post an add, 2 post a strike, 3 send, 4 park, 5 collect, 6 take, and show by any other.
 fn read_move(bytes: &[u8]) -> Result<Move<Job, Slip>, Refusal> {
     let &[call, seat, low, high, a, b, c, d, poster, ..] = bytes else {
         return Ok(Move::Show(0));
@@ -100,7 +98,6 @@ fn read_move(bytes: &[u8]) -> Result<Move<Job, Slip>, Refusal> {
     }
 }
 
-// It is no `Display`: a reply is of another crate, and these words are this program's.
 fn print_reply(rt: &HostRuntime, reply: Reply<Slip>) -> io::Result<()> {
     match reply {
         Reply::Docket(Slip { room, seat, number }) => println!(rt; "docket {room} {seat} {number}"),
@@ -154,7 +151,6 @@ fn print_replies(
 }
 
 // A room that was worked, with the tables that are brought to its calls.
-// Each program has its own: inherent impls stay in the type's crate, so one of another crate could have no methods here.
 #[derive(Drop)]
 struct Desk<'t> {
     room: Room,
@@ -185,7 +181,6 @@ impl Desk<'_> {
     }
 
     fn print_seats(&self, rt: &HostRuntime, seats: u8) -> io::Result<()> {
-        // A seat's number is what the calls take; nothing is looked up by it here.
         for seat in 0..seats {
             self.print_log(rt, seat)?;
             tell(rt, self.print_jobs(rt, seat))?;

@@ -1,4 +1,4 @@
--- What the tests of a scan tell of a letter's readiness.
+-- What the tests of a scan decide of a letter's readiness.
 use Rattle.std.proofs.Common.{◌≡◌, ℕ, ◌+◌, ◌<◌, ◌≤◌, true, false, List, length, get_or, Some, None, Option, Bor, Iter, sym, ap, ◌∙◌, subst, ⊎_elim, arith}
 use Rattle.std.specs.Iterator.{Yields}
 use Rattle.std.specs.Iterator.Adapters.{enumerate_steps}

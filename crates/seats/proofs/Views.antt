@@ -13,7 +13,7 @@ use Rattle.seats.proofs.Clocks.{log_fits, row_end}
 use Rattle.seats.proofs.Tables.{part, part_push, part_set_out, part_closed, part_closed_out, rows_apart}
 
 module _ (st : RoomState) (ok : Sound st) (s : ℕ) (inside : s < st.count) (x : Seat) where
-  -- the seat that was told, and the others
+  -- the seat that was written, and the others
   pub told_seat : seat_at (with_seat st s x) s ≡ x
   told_seat = get_or-set_same st.seats s x blank (omega (arith, ok.few, ok.table))
 

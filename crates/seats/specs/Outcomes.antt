@@ -15,17 +15,17 @@ use Rattle.seats.specs.declared.taken.Taken.TheVariants as taken
 use Rattle.seats.specs.Rooms.{RoomState, closed, foot, hold_of, log_of, seat_at, start, suffice, with_seat}
 use Rattle.seats.specs.Seats.{allows, clock_at, clocked, docketed, holding, raised, released}
 
--- an answer where a check says yes
+-- an answer where a check accepts
 abbrev pub answered : {X : Type 0} → Result (Unit {0}) Reason → X → Result X Reason
 answered (Ok done) x = Ok x
 answered (Err why) x = Err why
 
--- a further answer where a check says yes
+-- a further answer where a check accepts
 abbrev pub follows : {X : Type 0} → Result (Unit {0}) Reason → Result X Reason → Result X Reason
 follows (Ok done) r = r
 follows (Err why) r = Err why
 
--- a table or a room after an answer: changed by a yes, and by a no as it was
+-- a table or a room after an answer: changed where it accepts, and as it was on refusal
 abbrev pub after : {X Y : Type 0} → Result X Reason → (X → Y) → Y → Y
 after (Ok x) changed was = changed x
 after (Err why) changed was = was
@@ -85,8 +85,8 @@ docket_room st s e answer = after answer (λ x. with_seat st s (docketed (seat_a
 abbrev pub carrier_check : RoomState → ℕ → ℕ → ℕ → Result (Unit {0}) Reason
 carrier_check st logs holds seats = unless (suffice st logs holds) 5 (unless (seats == st.count) 6 (Ok tt))
 
--- what a refused take leaves of the carrier itself, C: all of it where it does not come to draw, and where the carrier says
--- no, what `rests` says that its no leaves
+-- what a refused take leaves of the carrier itself, C: all of it where draw is not called, and where the carrier refuses,
+-- what `rests` says that its refusal leaves
 abbrev pub DrawRests : {C : Type 0} → (C → C → Type 0) → Result (Unit {0}) Reason → Result (Unit {0}) Reason → C → C → Type 0
 DrawRests rests (Ok may) (Ok done) c c' = Unit {0}
 DrawRests rests (Ok may) (Err why) c c' = rests c c'
@@ -127,7 +127,7 @@ module _ {B : Type 0} where
   abbrev pub send_letter : RoomState → List (Letter B) → ℕ → ℕ → Slip → Result (Letter B) Reason
   send_letter st logs holds seats d = follows (carrier_check st (length logs) holds seats) (follows (park_answer st d) (slip_letter st logs d))
 
-  -- what the carrier says of it
+  -- what the carrier answers to it
   abbrev pub put_letter : Meaning (Letter B) → Result (Letter B) Reason → Result (Unit {0}) Reason
   put_letter c (Ok m) = put_answer c m.poster
   put_letter c (Err why) = Err why
@@ -141,8 +141,8 @@ module _ {B : Type 0} where
   PutOf c (Ok m) (Err why) c' = c' ≡ c
   PutOf c (Err why) answer c' = c' ≡ c
 
-  -- and of the carrier itself, C, of which `puts` says what one put does, and `rests` what a no of its own leaves: one put of
-  -- the docket's letter, or what the no leaves; where there is no letter to put, all as it was
+  -- and of the carrier itself, C, of which `puts` says what one put does, and `rests` what its refusal leaves: one put of
+  -- the docket's letter, or what the refusal leaves; where there is no letter to put, all as it was
   abbrev pub PutsOnce : {C : Type 0} → (C → Letter B → C → Type 0) → (C → C → Type 0) → Result (Letter B) Reason → Result (Unit {0}) Reason → C → C → Type 0
   PutsOnce puts rests (Ok m) (Ok done) c c' = puts c m c'
   PutsOnce puts rests (Ok m) (Err why) c c' = rests c c'

@@ -16,7 +16,7 @@ pub record RoomState : Type 0 where
 abbrev pub seat_at : RoomState → ℕ → Seat
 seat_at st s = slice_index_or st.seats s blank
 
--- the room with one seat told
+-- the room with one seat written
 abbrev pub with_seat : RoomState → ℕ → Seat → RoomState
 with_seat st s x = record { number = st.number; names = st.names; count = st.count; quota = st.quota; seats = slice_set st.seats s x }
 

@@ -1,4 +1,4 @@
--- What a seat is told.
+-- A seat's clock, docket and hold, and how each changes.
 use Rattle.std.specs.Prelude.{ℕ, ◌+◌, ◌-◌, Bool, true, false, [], replicate, sum, slice_set}
 use Rattle.causality.specs.declared.docket.DocketState.{DocketState}
 use Rattle.causality.specs.declared.docket.DocketState.TheVariants.{Clear, Out, Parked}

@@ -9,8 +9,7 @@ ghost use Rattle.seats.specs.Scans.{FirstSuch, due};
 use letters::letter::Letter;
 use letters::stamp::Stamp;
 
-// The first letter with this name, with its place. A name that is asked for may be one that no letter has, so it is no
-// `LetterId`.
+// The first letter with this name, with its place. The name may be one that no letter has.
 pub fn find_named<B: Copy>(
     letters: &[Letter<B>],
     poster: u8,
@@ -27,7 +26,6 @@ pub fn find_named<B: Copy>(
     None
 }
 
-// Whether the letter has this name.
 fn is_named<B: Copy>(letter: &Letter<B>, poster: u8, number: u16) -> bool
     ensures { result ≡ is_called poster number letter.now }
 {
@@ -68,7 +66,7 @@ fn is_due<B: Copy>(letter: &Letter<B>, count: u8, quota: u16, seat: u8, clock: &
 {
     let poster = letter.poster();
     let number = letter.number();
-    // A letter's number is not 0. What most letters of a hold fail is asked first.
+    // A letter's number is not 0. What most letters of a hold fail is tested first.
     number - 1 == clock.entries[poster as usize]
         && poster < count
         && poster != seat

@@ -1,4 +1,4 @@
-// What a room keeps for its seats, and what each call on a room comes to.
+// What a room keeps for its seats, and what each call on a room answers and leaves.
 #![tactic(auto)]
 
 pub mod finding;

@@ -46,7 +46,7 @@ impl Seat {
         put(&mut self.clock.entries, poster as usize, number);
     }
 
-    // Raises the clock's entry for a seat by one, or answers false and leaves it where it has come to the quota.
+    // Raises the clock's entry for a seat by one, or answers false and leaves it where it is not below the quota.
     pub fn raise(&mut self, own: u8, quota: u16) -> bool
         ensures answer { result ≡ nat_lt (clock_at self.old own) quota }
         ensures seat { self.new ≡ (if result then raised self.old own else self.old) }

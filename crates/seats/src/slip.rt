@@ -1,6 +1,6 @@
-// What a docket says.
+// The numbers of a docket.
 
-// The three numbers of a docket: the room's, the seat and the letter's. Plain data: a step that is told by numbers brings
+// The three numbers of a docket: the room's, the seat and the letter's. Plain data: a step of a list of steps brings
 // them, and a room refuses those that no docket out has.
 #[derive(Clone, Copy, Default, PartialEq, Eq)]
 pub struct Slip {

@@ -1,7 +1,7 @@
 // A job that is open.
 
 // A job of a job list: the name p.n of the letter that opened it, and its code.
-// Its name is no `LetterId`: what a list means is told of jobs with any p and n.
+// Any p and n can stand here.
 #[derive(Clone, Copy, PartialEq, Eq, Default)]
 pub struct OpenJob {
     pub poster: u8,

@@ -1,4 +1,4 @@
--- Two lists of the same elements, in each of which none is related to a later one, come to the same.
+-- Two lists of the same elements, in each of which none is related to a later one, give the same result.
 use Rattle.std.proofs.Common.{◌≡◌, ℕ, suc, ◌+◌, ◌<◌, ◌≤◌, ◌⊎◌, List, [], ◌∷◌, length, fold, sym, refl, ap, ◌∙◌, subst, inl, inr, arith}
 use Rattle.letters.specs.Lists.{Apart, SameElements, ◌∈◌, here, there}
 

@@ -1,4 +1,4 @@
--- Rows that may go in in either order.
+-- Rows that may be placed in either order.
 use Rattle.std.specs.Prelude.{◌≡◌, Bool, true, false, cond, not, List, [], ◌∷◌, ◌++◌, filter}
 use Rattle.std.specs.Cmp.{IsStrictWeakOrder}
 use Rattle.std.proofs.Common.{append_assoc, inl, inr, sym, ap, ◌∙◌, arith}
@@ -25,7 +25,7 @@ filter_with_row after test rows new keeps =
 
 -- rows in an order by its laws
 module _ {X : Type 0} (after : X → X → Bool) (laws : IsStrictWeakOrder after) where
-  -- two new rows, one of which stands after the other, go in in either order
+  -- two new rows, one of which stands after the other, may be placed in either order
   pub placed_swap : (rows : List X) (a b : X) → after a b ≡ not (after b a)
       → placed after (placed after rows a) b ≡ placed after (placed after rows b) a
   placed_swap [] a b differ = either_first (after a b) (after b a) (b ∷ a ∷ []) (a ∷ b ∷ []) differ

@@ -6,12 +6,12 @@ use Rattle.letters.specs.Refusals.{Reason, unless}
 use Rattle.letters.specs.Lists.{SameElements}
 use Rattle.letters.specs.Logs.{Once, Ordered}
 
--- what a caller is told of an outcome: a yes, or the reason of the no
+-- the answer of an outcome: accepted, or the reason of the refusal
 abbrev pub answered : {M : Type 0} → Result M Reason → Result (Unit {0}) Reason
 answered (Ok after) = Ok tt
 answered (Err why) = Err why
 
--- what a sheet means after an outcome: a no leaves it as it was
+-- what a sheet means after an outcome: a refusal leaves it as it was
 abbrev pub left_by : {M : Type 0} → Result M Reason → M → M
 left_by (Ok after) before = after
 left_by (Err why) before = before
@@ -32,7 +32,7 @@ module _ {M B : Type 0} (kind : Kind M B) where
   abbrev pub enter_outcome : M → Letter B → Result M Reason
   enter_outcome m x = unless (not (kind.count m == kind.places)) 18 (Ok (kind.entered m x))
 
-  -- what the letters of a log come to, entered from the top on an empty sheet
+  -- what results from the letters of a log, entered from the top on an empty sheet
   abbrev pub drawn_up : List (Letter B) → M
   drawn_up log = fold kind.entered kind.empty log
 
@@ -55,7 +55,7 @@ module _ {M B : Type 0} (kind : Kind M B) where
     pub commutes : (m : M) (x y : Letter B) → kind.count m + 2 ≤ kind.places → SideBySide x y
         → kind.entered (kind.entered m x) y ≡ kind.entered (kind.entered m y) x
 
-  -- convergence: two logs that hold the same letters, each of them once and in a causal order, come to the same,
+  -- convergence: two logs that hold the same letters, each of them once and in a causal order, give the same meaning,
   -- where their length is within the places
   abbrev pub Converges : Type 0
   Converges =

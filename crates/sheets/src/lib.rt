@@ -1,4 +1,4 @@
-// Sheets: what a log of letters comes to, whatever order side-by-side letters came in.
+// Sheets: what results from a log of letters, in whatever order side-by-side letters stand in it.
 #![tactic(auto)]
 
 pub mod pages;

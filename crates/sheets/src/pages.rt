@@ -3,7 +3,6 @@ ghost use Rattle.std.specs.Prelude.{◌≡◌};
 ghost use Rattle.sheets.specs.declared.pages.TheConstants.{ROWS_TO_A_PAGE};
 ghost use Rattle.sheets.specs.Pages.{RoundedUp, page_count};
 
-// How many rows a page has.
 pub const ROWS_TO_A_PAGE: u32 = 20;
 
 // How many pages so many rows take; a log and a timeline count theirs by it.

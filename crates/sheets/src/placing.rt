@@ -6,7 +6,7 @@ ghost use Rattle.sheets.specs.Placing.{place_among, placed, placed_within};
 
 use arrayvec::ArrayVec;
 
-// A type of rows that have an order. It is no `PartialOrd`, since rows that differ can stand level in it.
+// A type of rows that have an order. Of two rows that differ, neither need stand after the other.
 pub trait Placed: Copy {
     ghost after: { Self → Self → Bool };
 

@@ -7,7 +7,7 @@ use letters::body::Body;
 use letters::letter::Letter;
 use letters::refusal::Refusal;
 
-// A kind of sheet: something that the letters of a log come to when they are entered one by one.
+// A kind of sheet: what results from the letters of a log when they are entered one by one.
 // The law is that letters which are side by side may be entered in either order.
 pub trait Sheet {
     type Body: Body;
@@ -33,7 +33,7 @@ pub trait Sheet {
     fn clear(&mut self)
         ensures { meaning self.new ≡ kind.empty };
 
-    // Enters a letter; 18 where no place is free, and what the sheet means stays.
+    // Enters a letter; 18 where no place is free, and the sheet's meaning stays.
     fn enter(&mut self, letter: &Letter<Self::Body>) -> Result<(), Refusal>
         ensures answer { told (λ u. u) result ≡ answered (enter_outcome kind (meaning self.old) letter.now) }
         ensures leaves { meaning self.new ≡ left_by (enter_outcome kind (meaning self.old) letter.now) (meaning self.old) };
@@ -44,7 +44,7 @@ pub trait Sheet {
 }
 
 // Clears the sheet and enters the letters of the log from the top; 17 where the log is longer than the sheet has places.
-// Two logs that hold the same letters, in whatever causal orders, come to the same.
+// Two logs that hold the same letters, in whatever causal orders, give the same meaning.
 pub fn draw_up<K: Sheet>(sheet: &mut K, log: &[Letter<K::Body>]) -> Result<(), Refusal>
     ensures answer { told (λ u. u) result ≡ answered (draw_up_outcome K.Sheet.kind log.now) }
     ensures leaves { K.Sheet.meaning sheet.new ≡ left_by (draw_up_outcome K.Sheet.kind log.now) (K.Sheet.meaning sheet.old) }

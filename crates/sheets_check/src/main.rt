@@ -26,7 +26,7 @@ enum Order {
 }
 
 impl Order {
-    // No conversion trait: a block may name no order, which is no error, and the `Option` says so.
+    // None where the block holds a letter.
     fn of(block: &[u8; RECORD_SIZE]) -> Option<Order> {
         match block[POSTER_PLACE] {
             255 => Some(Order::DrawUp),
@@ -36,7 +36,7 @@ impl Order {
     }
 }
 
-// The text that a block says.
+// The text of a block.
 fn text_said(block: &[u8; RECORD_SIZE]) -> Result<Text, Refusal> {
     let len = block[LENGTH_PLACE] as usize;
     if len > BODY_SPACE {
@@ -45,7 +45,7 @@ fn text_said(block: &[u8; RECORD_SIZE]) -> Result<Text, Refusal> {
     Text::new(&block[BODY_PLACE..BODY_PLACE + len])
 }
 
-// The job that a block says.
+// The job of a block.
 fn job_said(block: &[u8; RECORD_SIZE]) -> Result<Job, Refusal> {
     let body = &block[BODY_PLACE..];
     if body[0] == 1 {
@@ -54,7 +54,7 @@ fn job_said(block: &[u8; RECORD_SIZE]) -> Result<Job, Refusal> {
     Job::strike(body[1], u16::from_le_bytes([body[2], body[3]]))
 }
 
-// The letter of a block, with the body that it says.
+// The letter of a block, with this body.
 fn letter_of<B: Body>(
     block: &[u8; RECORD_SIZE],
     body: Result<B, Refusal>,
@@ -83,7 +83,6 @@ fn work<K: Sheet>(sheet: &mut K, log: &[Letter<K::Body>], order: Order) -> Resul
     }
 }
 
-// It is no `Display`: a `Result` is of the library, and these words are this program's.
 fn print_answer(rt: &HostRuntime, answer: Result<(), Refusal>) -> io::Result<()> {
     match answer {
         Ok(()) => println!(rt; "done"),

@@ -64,7 +64,7 @@ impl<'a, B: Body> Spool<'a, B> {
         Some(row)
     }
 
-    // Takes a seat's bit out of a row, and the row out where no bit is left.
+    // Clears a seat's bit in a row, and removes the row where no bit is left.
     fn strike(&mut self, row: usize, seat: u8)
         requires seat { seat < self.old.seats }
         requires row { row < self.old.rows }
@@ -84,8 +84,7 @@ impl<'a, B: Body> Spool<'a, B> {
     }
 }
 
-// The row at a place among those with a seat's bit, with its number. That the seat is below 16 is asked here, below and in
-// `marks` alone: the calls of a carrier take any `u8`, and a type of seats would be no plainer for three private functions.
+// The row at a place among those with a seat's bit, with its number.
 fn nth_marked(rows: &[[u8; ROW_SIZE]], seat: u8, place: usize) -> Option<(usize, &[u8; ROW_SIZE])>
     requires { seat < 16 }
     ensures { option_map (λ p. (p.0, p.1.now)) result ≡ slice_get (filter (λ p. marked (mask_of p.1) seat) (enumerate_from 0 rows.now)) place }

@@ -13,7 +13,6 @@ mod masks;
 pub mod tape;
 
 // The first rows of the buffer hold the letters that wait, in the order of their puts.
-// The buffer is lent, so no vector stands for the rows and their count.
 #[derive(Drop)]
 pub struct Spool<'a, B> {
     tape: Tape<'a>,

@@ -1,8 +1,8 @@
-// The lent buffer of a spool, row by row. It has no invariant of its own: what holds of the rows depends on their number, which the spool keeps.
+// The lent buffer of a spool, row by row. The spool keeps how many rows there are.
 ghost use Rattle.std.specs.Prelude.{◌≡◌, ℕ, ◌+◌, ◌*◌, ◌<◌, ◌≤◌, length};
 ghost use Rattle.std.specs.Simd.{first_chunks};
 ghost use Rattle.std.specs.List.{copy_within};
-ghost use Rattle.letters.specs.Letters.{blank_letter, parts_of};
+ghost use Rattle.letters.specs.Letters.{parts_of};
 ghost use Rattle.letters.specs.Numbers.{bytes_of_16};
 ghost use Rattle.carriers.specs.Places.{OnlyAt};
 ghost use Rattle.records.specs.Buffers.{overlaid};
@@ -23,14 +23,12 @@ pub(crate) struct Tape<'a> {
     pub(crate) bytes: &'a mut [u8],
 }
 
-// The mask of a row.
 pub(crate) fn mask_of(row: &[u8; ROW_SIZE]) -> u16
     ensures { result ≡ mask_of row.now }
 {
     u16::from_le_bytes([row[RECORD_SIZE], row[RECORD_SIZE + 1]])
 }
 
-// The functions of a row ask `row * ROW_SIZE + ROW_SIZE ≤ length`: which row is asked for changes from call to call, and no type ties a number to the buffer's length.
 impl<'a> Tape<'a> {
     // The first rows.
     pub(crate) fn rows(&self, count: usize) -> &[[u8; ROW_SIZE]]

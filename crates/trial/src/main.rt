@@ -20,7 +20,7 @@ const LETTERS: usize = 64;
 
 const BYTES: usize = 1024;
 
-// What a carrier is asked: data, as it is read from bytes, and no closure.
+// What a carrier is asked, as it is read from bytes.
 #[derive(Clone, Copy)]
 enum Step {
     // puts a letter that adds a job
@@ -62,7 +62,6 @@ struct Setting {
 }
 
 // Why the trial of a make ends before its steps are done: what is refused is printed, and the next make is tried.
-// Each program has its own: a crate for an error enum of two cases would be no plainer.
 #[derive(Debug, Drop)]
 enum Stop {
     Refused(Refusal),
@@ -97,14 +96,12 @@ impl From<&[u8; 10]> for Setting {
 }
 
 impl Setting {
-    // How many letters are brought.
     fn letters_brought(&self) -> usize
         ensures { result ≤ LETTERS }
     {
         self.letters.min(LETTERS)
     }
 
-    // How many bytes are brought.
     fn bytes_brought(&self) -> usize
         ensures { result ≤ BYTES }
     {
@@ -122,7 +119,6 @@ fn make_letter(poster: u8, number: u16, code: u32) -> Result<Letter<Job>, Refusa
     })
 }
 
-// It is no `Display`: a `Result` is of the library, and these words are this program's.
 fn print_answer(rt: &HostRuntime, word: &str, answer: Result<(), Refusal>) -> io::Result<()> {
     match answer {
         Ok(()) => println!(rt; "{word}"),
@@ -130,7 +126,6 @@ fn print_answer(rt: &HostRuntime, word: &str, answer: Result<(), Refusal>) -> io
     }
 }
 
-// It is no `Display` either: the parts are of another crate.
 fn print_parts(rt: &HostRuntime, parts: &Parts<Job>) -> io::Result<()> {
     let poster = parts.poster;
     print!(rt; "page {poster}")?;

@@ -1,16 +1,16 @@
 use Rattle.std.proofs.Common.{◌≡◌, length, take, string_bytes, sym, ◌∙◌, arith, rules}
-use Rattle.branch.specs.Turns.{Turn}
+use Rattle.branch.specs.Driving.{DeskTurn}
 use Rattle.chunks.proofs.Filling.{full_or_end}
 use Rattle.branch.proofs.Pieces.{at_end, begun, not_err, on}
 use Rattle.branch.proofs.drive.Goals.{then-is_err-via-then-is_err, then-is_err-via-else-is_err+then-read-lt-CHUNK}
 use Rattle.branch.proofs.drive.Goals as goal
 
 pub loop-init : goal.loop-init
-loop-init g c = begun (Turn g.C.Carrier.meaning g.C.Carrier.puts g.C.Carrier.rests) (g.R.Read.remaining c.args.input.now) (g.W.Write.contents c.args.output.now) c.args.desk.now
+loop-init g c = begun (DeskTurn g.C.Carrier) (g.R.Read.remaining c.args.input.now) (g.W.Write.contents c.args.output.now) c.args.desk.now
 
 pub loop-preserved : goal.loop-preserved
 loop-preserved g c =
-    on (Turn g.C.Carrier.meaning g.C.Carrier.puts g.C.Carrier.rests) (g.R.Read.remaining c.args.input.now) (g.R.Read.remaining c.loop.input) (g.R.Read.remaining c.fill.new.input)
+    on (DeskTurn g.C.Carrier) (g.R.Read.remaining c.args.input.now) (g.R.Read.remaining c.loop.input) (g.R.Read.remaining c.fill.new.input)
     (g.W.Write.contents c.args.output.now) (g.W.Write.contents c.loop.output) _ c.args.desk.now c.loop.desk _
     c.loop.index c.make_steps.new.index (take c.in_ok-read.read c.fill.new.chunk) (string_bytes c.make_steps.new.lines) c.as_bytes.result.now (string_bytes c.clear.new.self)
     c.in_ok-read.ensures.filled.read c.clear.ensures.bytes c.as_bytes.ensures.value c.in_ok-write_all.ensures.bytes
@@ -23,7 +23,7 @@ returns-then-is_err g c =
     let left' = g.R.Read.remaining c.fill.new.input in
     let chunk = c.fill.new.chunk in
     let n = c.in_ok-read.read in
-    at_end (Turn g.C.Carrier.meaning g.C.Carrier.puts g.C.Carrier.rests) (g.R.Read.remaining c.args.input.now) left left'
+    at_end (DeskTurn g.C.Carrier) (g.R.Read.remaining c.args.input.now) left left'
     (g.W.Write.contents c.args.output.now) (g.W.Write.contents c.loop.output) _ c.args.desk.now c.loop.desk _
     c.loop.index c.make_steps.new.index (take n chunk) (string_bytes c.make_steps.new.lines) c.as_bytes.result.now (string_bytes c.clear.new.self)
     c.in_ok-read.ensures.filled.read c.clear.ensures.bytes c.as_bytes.ensures.value c.in_ok-write_all.ensures.bytes

@@ -142,7 +142,6 @@ impl<'a, B: Body> Carrier for Lines<'a, B> {
         if !self.fits(poster) {
             return Err(Refusal::CarrierFull);
         }
-        // A seat's number is what each call takes; nothing is looked up by it here.
         for other in 0..self.seats {
             if other != poster {
                 self.append(other, letter);

@@ -12,7 +12,7 @@ use Rattle.delivery.specs.Passing.{and_then, delivery_answer, first_answer, part
 use Rattle.delivery.proofs.Client.{SomeFor, after_yes, first_drawn, first_ok, on_no, pass_ok, passed, some_waits}
 use Rattle.delivery.proofs.over_lines.Goals as goal
 
--- what holds anyway holds after a yes
+-- what holds anyway holds where the answer accepts
 after_ok : (r : Result (Unit {0}) Refusal) (P : Type 0) → P → OnOk r P
 after_ok (Ok u) P p = p
 after_ok (Err why) P p = tt

@@ -61,7 +61,7 @@ impl<B: Copy> Letter<B> {
         })
     }
 
-    // Its parts.
+    // The stamp, the poster and the body.
     pub fn parts(&self) -> Parts<B>
         ensures { result ≡ parts_of self.now }
     {
@@ -97,7 +97,7 @@ impl<B: Copy> Letter<B> {
         self.stamp.entries[self.poster as usize]
     }
 
-    // What the letter is called.
+    // Its name.
     pub fn id(&self) -> LetterId
         ensures { name_of result ≡ letter_name self.now }
     {

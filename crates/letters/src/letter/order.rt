@@ -1,4 +1,4 @@
-// What letters say of one another, and when one may be shown.
+// How letters relate to one another, and when one may be shown.
 ghost use Rattle.std.specs.Prelude.{◌≡◌, ◌+◌, Decides, ◌==◌};
 ghost use Rattle.letters.specs.Letters.{entry_at, number_of};
 ghost use Rattle.letters.specs.Order.{Covers, Ready, SameLetter, SideBySide, all_known, covers, ready, same_letter, side_by_side};
@@ -8,7 +8,7 @@ use crate::letter_id::LetterId;
 use crate::stamp::Stamp;
 
 impl Stamp {
-    // Whether the entry at the letter's poster has come to its number.
+    // Whether the entry at the letter's poster is at least its number.
     pub fn covers(&self, id: LetterId) -> bool
         ensures { result ≡ covers self.now id.poster id.number }
     {
@@ -42,7 +42,6 @@ impl<B: Copy> Letter<B> {
     }
 
     // Whether the letter may be shown next at a seat with this clock, in a room of n seats with the quota q.
-    // The four are no struct: each caller has them from elsewhere, and would make one only to have it taken apart here.
     pub fn is_ready(&self, n: u8, q: u16, seat: u8, clock: &Stamp) -> bool
         ensures answer { result ≡ ready n q seat clock.now self.now }
         ensures decides { Decides result (Ready n q seat (entry_at clock.now) self.now) }
@@ -55,7 +54,7 @@ impl<B: Copy> Letter<B> {
             && self.is_all_known(clock)
     }
 
-    // Whether the clock has come to each entry but the poster's own.
+    // Whether each entry but the poster's own is at most the clock's.
     fn is_all_known(&self, clock: &Stamp) -> bool
         ensures { result ≡ all_known clock.now self.now }
     {

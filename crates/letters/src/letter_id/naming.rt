@@ -8,7 +8,7 @@ use crate::refusal::Refusal;
 use std::fmt;
 
 impl LetterId {
-    // The name of a letter that can be; 20 where the poster is no seat or the number is 0.
+    // The name with this poster and number; 20 where the poster is no seat or the number is 0.
     pub fn new(poster: u8, number: u16) -> Result<LetterId, Refusal>
         ensures { told name_of result ≡ name_answer poster number }
     {
@@ -18,7 +18,7 @@ impl LetterId {
         Ok(LetterId { poster, number })
     }
 
-    // The name of a letter that is.
+    // The name of a letter, whose poster is a seat and whose number is not 0.
     pub(crate) fn of(poster: u8, number: u16) -> LetterId
         requires { (poster < 16) × (0 < number) }
         ensures { name_of result ≡ name poster number }

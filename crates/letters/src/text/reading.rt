@@ -12,7 +12,7 @@ use crate::refusal::Refusal;
 use crate::text::{LONGEST_TEXT, Text};
 
 impl Text {
-    // The text of these bytes; more than sixty, and any that is no printable character, are refused with 20.
+    // The text of these bytes; more than sixty, and any that is not a printable character, are refused with 20.
     pub fn new(bytes: &[u8]) -> Result<Text, Refusal>
         ensures { told text_bytes result ≡ text_answer bytes.now }
     {
@@ -71,7 +71,7 @@ fn first_wrong(bytes: &[u8]) -> Option<u8>
     Some(place as u8)
 }
 
-// The first byte that is no printable character.
+// The first byte that is not a printable character.
 fn unprintable(bytes: &[u8]) -> Option<usize>
     ensures { result ≡ position (λ b. not (printable b)) bytes.now }
 {

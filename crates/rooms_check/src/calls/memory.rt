@@ -1,4 +1,4 @@
-// The memory that is brought and lent: letter tables, carriers and sheets, and the lines that tell of them.
+// The memory that is brought and lent: letter tables, carriers and sheets, and the lines about them.
 use crate::Stop;
 use crate::calls::{AnswerLine, Make, ScriptBody, Size, byte_sum, chars, table_sum};
 use carriers::lines::Lines;
@@ -37,7 +37,7 @@ impl<B: ScriptBody> Tables<B> {
     }
 }
 
-// The front of a table, to be read; all of it, where it is no longer.
+// The front of a table, to be read; the whole table where it is not longer than that.
 fn front<T>(table: &[T], len: usize) -> &[T] {
     let len = len.min(table.len());
     &table[..len]
@@ -173,7 +173,6 @@ impl ScriptSheet for Timeline {
     }
 }
 
-// Adds the line of an answer.
 fn add_answer(lines: &mut String, answer: AnswerLine) -> Result<(), AllocError> {
     writeln!(lines, "{answer}")
 }
@@ -191,7 +190,6 @@ fn add_parts<B: ScriptBody>(lines: &mut String, parts: &Parts<B>) -> Result<(), 
     writeln!(lines, "")
 }
 
-// Adds the line of a log.
 fn add_log<B: ScriptBody>(lines: &mut String, log: &[Letter<B>]) -> Result<(), AllocError> {
     write!(lines, "log")?;
     for letter in log {

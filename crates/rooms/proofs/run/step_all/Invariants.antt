@@ -5,7 +5,7 @@ use Rattle.rooms.specs.Serving.{CarriedThrough, Serves}
 use Rattle.rooms.specs.States.{state}
 use Rattle.rooms.proofs.run.step_all.Given as goal
 
--- the steps so far are made and their replies written, the carrier went through what they tell, and no reply past the last step is touched
+-- the steps so far are made and their replies written, the carrier went through these steps, and no reply past the last step is touched
 abbrev pub invariant-loop-i : goal.invariant-loop-i
 invariant-loop-i g l = record {
   led : Leads (moment (state l.initial.room) l.initial.logs l.initial.holds (g.C.Carrier.meaning l.initial.carrier))

@@ -1,7 +1,7 @@
 use Rattle.std.proofs.Common.{◌≡◌, ◌*◌, ◌≤◌, length, drop, string_bytes}
 use Rattle.std.specs.Slice.Iter.{chunks_rest, chunks_size}
 use Rattle.branch.specs.Runs.{MadeSteps}
-use Rattle.branch.specs.Turns.{Turn}
+use Rattle.branch.specs.Driving.{DeskTurn}
 use Rattle.branch.proofs.desk.Desk.make_steps.Given as goal
 
 -- the steps so far are made, and the others are left
@@ -12,6 +12,6 @@ invariant-loop-step g l = record {
   size : chunks_size l.step-iterator ≡ 8;
   rest : chunks_rest l.step-iterator ≡ drop (length l.yielded * 8) l.bytes;
   within : length l.yielded * 8 ≤ length l.bytes;
-  made : MadeSteps (Turn g.C.Carrier.meaning g.C.Carrier.puts g.C.Carrier.rests) l.bytes l.initial.index (string_bytes l.initial.lines) l.initial.self
+  made : MadeSteps (DeskTurn g.C.Carrier) l.bytes l.initial.index (string_bytes l.initial.lines) l.initial.self
       (length l.yielded) l.index (string_bytes l.lines) l.self;
 }

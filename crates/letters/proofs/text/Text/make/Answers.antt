@@ -8,7 +8,8 @@ use Rattle.letters.specs.declared.text.TheConstants.{LONGEST_TEXT}
 use Rattle.letters.proofs.text.Text.make.Goals as goal
 
 -- the bytes are within the space, so none is left out
-chars_are : (bs chars : List ℕ) → text_wrong bs ≡ None → chars ≡ padded LONGEST_TEXT (take LONGEST_TEXT bs) → chars ≡ padded LONGEST_TEXT bs
+chars_are : (bs chars : List ℕ) → text_wrong bs ≡ None → chars ≡ padded LONGEST_TEXT (take LONGEST_TEXT bs)
+    → chars ≡ padded LONGEST_TEXT bs
 chars_are bs chars right e = e ∙ ap (padded LONGEST_TEXT) (take_all LONGEST_TEXT bs (short bs (ap is_some right)))
 
 pub invariant_of-result : goal.invariant_of-result

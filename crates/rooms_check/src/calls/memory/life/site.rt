@@ -30,7 +30,6 @@ use std::alloc::{AllocError, Global};
 
 pub mod scripts;
 
-// How many bytes the file has.
 const FILE_SIZE: usize = 4096;
 
 // Two rooms, and what can be brought to them.
@@ -238,7 +237,7 @@ fn draw_up_at<B: ScriptBody, K: ScriptSheet<Body = B>>(
     }
 }
 
-// So many steps; which they are does not count.
+// So many steps; which they are does not matter.
 fn some_steps<B: Copy>(alloc: Global, count: u16) -> Result<Vec<Move<B, Slip>>, AllocError> {
     let mut steps = Vec::new(alloc);
     for _ in 0..count.min(MOST_STEPS) {
