@@ -97,7 +97,7 @@ def signature(result, *parameters):
 
 
 DOCKET = ["rooms::docket::Docket"]
-SLIP = [*DOCKET, "seats::slip::Slip"]
+SLIP = [*DOCKET, "seats::docket_id::DocketId"]
 ROOM = ["rooms::room::Room"]
 REFUSAL = ["letters::refusal::Refusal"]
 LETTERS = ["letters::job::Job", "letters::letter::Letter"]
@@ -115,7 +115,7 @@ ON_LINES = "lines: &mut Lines<Job>"
 POST = "room.post(logs, holds, 0, Job::Add(7))"
 
 READ_NUMBER = function(DOCKET, "(docket: &Docket) -> u16", "docket.number()")
-READ_SLIP = function(SLIP, "(docket: &Docket) -> Slip", "docket.slip()")
+READ_SLIP = function(SLIP, "(docket: &Docket) -> DocketId", "docket.id()")
 CHECK_CLOSE = function([*ROOM, *REFUSAL], "(room: &Room) -> Result<(), Refusal>", "room.check_close()")
 
 
@@ -192,9 +192,9 @@ MISUSES = [
     ),
     Misuse(
         "out_dockets_made",
-        function(OUT, "() -> OutDockets", "OutDockets { slips: Default::default() }"),
+        function(OUT, "() -> OutDockets", "OutDockets { ids: Default::default() }"),
         0,
-        "slips",
+        "ids",
         HIDDEN,
         function(OUT, "(dockets: OutDockets) -> OutDockets", "dockets"),
     ),
@@ -206,7 +206,7 @@ MISUSES = [
         HIDDEN,
         function(DOCKET, "(docket: Docket) -> Docket", "docket"),
     ),
-    Misuse("docket_made_of_a_slip", function(SLIP, "(slip: Slip) -> Docket", "Docket::of(slip)"), 0, "of", HIDDEN, READ_SLIP),
+    Misuse("docket_made_of_a_slip", function(SLIP, "(docket_id: DocketId) -> Docket", "Docket::of(docket_id)"), 0, "of", HIDDEN, READ_SLIP),
     Misuse(
         "docket_taken_apart",
         function(DOCKET, "(docket: Docket) -> u16", "let Docket { room: _, seat: _, number } = docket;", "number"),
@@ -217,9 +217,9 @@ MISUSES = [
     ),
     Misuse(
         "docket_turned_into_a_slip",
-        function(SLIP, "(docket: Docket) -> Slip", "docket.into_slip()"),
+        function(SLIP, "(docket: Docket) -> DocketId", "docket.into_id()"),
         0,
-        "into_slip",
+        "into_id",
         HIDDEN,
         READ_SLIP,
     ),
@@ -253,17 +253,17 @@ MISUSES = [
     Misuse(
         "letter_sent_by_numbers",
         step(
-            [*REFUSAL, "lives::moves::Move", "lives::reply::Reply", "seats::slip::Slip"],
-            " -> Result<Reply<Slip>, Refusal>",
-            "room.step(logs, holds, lines, Move::Send(Slip { room: 1, seat: 0, number: 1 }))",
+            [*REFUSAL, "lives::operation::Operation", "lives::response::Response", "seats::docket_id::DocketId"],
+            " -> Result<Response<DocketId>, Refusal>",
+            "room.step(logs, holds, lines, Operation::Send(DocketId { room: 1, seat: 0, number: 1 }))",
         ),
         0,
         "step",
         HIDDEN,
         step(
-            [*DOCKET, "lives::moves::Move", "lives::reply::Reply", "rooms::declined::Declined"],
-            " -> Result<Reply<Docket>, Declined>",
-            "room.make(logs, holds, lines, Move::Show(0))",
+            [*DOCKET, "lives::operation::Operation", "lives::response::Response", "rooms::declined::Declined"],
+            " -> Result<Response<Docket>, Declined>",
+            "room.make(logs, holds, lines, Operation::Show(0))",
         ),
     ),
     Misuse(

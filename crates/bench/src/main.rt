@@ -3,8 +3,8 @@
 #![tactic(auto)]
 
 ghost use Rattle.std.specs.Prelude.{◌≡◌, ◌*◌, true};
-ghost use Rattle.seats.specs.Outcomes.{good_slip};
-ghost use Rattle.rooms.specs.States.{slip, state};
+ghost use Rattle.seats.specs.Outcomes.{good_docket};
+ghost use Rattle.rooms.specs.States.{id_of, state};
 
 use carriers::carrier::Carrier;
 use carriers::lines::Lines;
@@ -17,7 +17,7 @@ use pair::Pair;
 use rooms::docket::{Docket, Returned};
 use rooms::draft::Draft;
 use rooms::room::Room;
-use seats::taken::Taken;
+use seats::take_outcome::TakeOutcome;
 use sheet_kinds::job_list::JobList;
 use sheet_kinds::timeline::Timeline;
 use sheets::sheet::Sheet;
@@ -55,7 +55,7 @@ enum Make {
     Pair,
 }
 
-// What is worked: the room's quota, the make of its carrier, and how many of the five parts, which are opening, posting and
+// What is run: the room's quota, the make of its carrier, and how many of the five parts, which are opening, posting and
 // sending, taking, showing and drawing up.
 #[derive(Clone, Copy)]
 struct Setting {
@@ -111,14 +111,14 @@ impl From<AllocError> for Stop {
 
 // A room at work, with the tables and the carrier that are brought to its calls.
 #[derive(Drop)]
-struct Desk<'t, B, C> {
+struct Session<'t, B, C> {
     room: Room,
     logs: &'t mut [Letter<B>],
     holds: &'t mut [Letter<B>],
     carrier: C,
 }
 
-impl<B: Body, C: Carrier<Body = B>> Desk<'_, B, C> {
+impl<B: Body, C: Carrier<Body = B>> Session<'_, B, C> {
     // Each seat in turn posts the next of its letters, which is sent at once.
     fn post_all(&mut self, bodies: &[B]) -> Result<u32, Refusal> {
         let mut sent: u32 = 0;
@@ -139,7 +139,7 @@ impl<B: Body, C: Carrier<Body = B>> Desk<'_, B, C> {
 
     // Sends a docket that is out at the room; where that is refused, it is parked.
     fn send(&mut self, docket: Docket) -> Result<(), Refusal>
-        requires { good_slip (state self.old.room) (slip docket) ≡ true }
+        requires { good_docket (state self.old.room) (id_of docket) ≡ true }
     {
         let logs = &mut *self.logs;
         let holds = &mut *self.holds;
@@ -157,16 +157,16 @@ impl<B: Body, C: Carrier<Body = B>> Desk<'_, B, C> {
         for seat in 0..SEATS as u8 {
             for place in (0..self.carrier.waits(seat)).rev() {
                 match self.take(seat, place)? {
-                    Taken::Held(_) => tally.held = tally.held.wrapping_add(1),
-                    Taken::Repeat(_) => tally.repeats = tally.repeats.wrapping_add(1),
-                    Taken::Stray(_) => {}
+                    TakeOutcome::Held(_) => tally.held = tally.held.wrapping_add(1),
+                    TakeOutcome::Repeat(_) => tally.repeats = tally.repeats.wrapping_add(1),
+                    TakeOutcome::Stray(_) => {}
                 }
             }
         }
         Ok(())
     }
 
-    fn take(&mut self, seat: u8, place: u32) -> Result<Taken, Refusal> {
+    fn take(&mut self, seat: u8, place: u32) -> Result<TakeOutcome, Refusal> {
         let logs = &mut *self.logs;
         self.room
             .take(logs, self.holds, &mut self.carrier, seat, place)
@@ -253,13 +253,13 @@ fn work_over<B: Body, C: Carrier<Body = B> + Drop, K: Sheet<Body = B>>(
         draft.check_open(&logs, &holds, &carrier)?;
         let room = draft.open(&logs, &holds, &carrier);
         tally.seats = carrier.seats() as u32;
-        let mut desk = Desk {
+        let mut session = Session {
             room,
             logs: &mut logs,
             holds: &mut holds,
             carrier,
         };
-        desk.work(setting.parts, bodies, sheet, &mut tally)?;
+        session.work(setting.parts, bodies, sheet, &mut tally)?;
     }
     Ok(tally)
 }

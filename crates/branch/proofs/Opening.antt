@@ -4,16 +4,16 @@ use Rattle.std.proofs.lemmas.Bool.{le-ltb}
 use Rattle.letters.specs.declared.letter.Letter.{Letter}
 use Rattle.letters.specs.Refusals.{Reason, unless}
 use Rattle.carriers.specs.Meaning.{Empty, Meaning}
-use Rattle.seats.specs.Outcomes.{answered}
+use Rattle.seats.specs.Outcomes.{answer_if}
 use Rattle.seats.specs.Rooms.{RoomState, log_of, suffice}
-use Rattle.rooms.specs.Drafts.{open_check, quiet}
-use Rattle.rooms.specs.Reading.{log_answer}
+use Rattle.rooms.specs.Drafts.{no_letter_waits, open_check}
+use Rattle.rooms.specs.RoomReading.{log_answer}
 use Rattle.rooms.proofs.Closing.{decides_quiet}
-use Rattle.branch.specs.Desks.{three_seats}
-use Rattle.branch.specs.Lines.{line_of, log_line, log_lines}
+use Rattle.branch.specs.Sessions.{three_seats}
+use Rattle.branch.specs.StepLines.{line_of, log_line, log_lines}
 
 module _ {L : Type 0} (m : Meaning L) (empty : Empty m) where
-  silent : quiet m 3 ≡ true
+  silent : no_letter_waits m 3 ≡ true
   silent = (decides_quiet m 3).1 (λ k lt. ap (λ l. min (length l) (2 ^ 32 - 1)) (empty k))
 
   -- with tables of 36 places, and with a carrier of three seats on which nothing waits
@@ -35,7 +35,7 @@ module _ {B : Type 0} (st : RoomState) (logs : List (Letter B)) (holds : ℕ) wh
   none_past : (n : ℕ) → st.count ≤ n → line_of n (log_answer st logs holds n) ≡ []
   none_past n past = so (suffice st (length logs) holds)
     where
-      so : (enough : Bool) → line_of n (answered (unless enough 5 (unless (nat_lt n st.count) 8 (Ok tt))) (log_of st logs n)) ≡ []
+      so : (enough : Bool) → line_of n (answer_if (unless enough 5 (unless (nat_lt n st.count) 8 (Ok tt))) (log_of st logs n)) ≡ []
       so true = rw (le-ltb n st.count past) refl
       so false = refl
 

@@ -7,10 +7,10 @@ use Rattle.letters.specs.declared.refusal.Refusal.{Refusal}
 use Rattle.branch.specs.declared.outcome.Outcome.{Outcome}
 use Rattle.branch.specs.declared.step.Call.{Call}
 use Rattle.branch.specs.declared.step.NoStep.{NoStep}
-use Rattle.branch.specs.Lines.{bad_line, step_line}
-use Rattle.branch.specs.Steps.{step_of}
+use Rattle.branch.specs.StepLines.{bad_line, step_line}
+use Rattle.branch.specs.ProgramSteps.{step_of}
 use Rattle.chunks.proofs.Streams.{appended, consumed}
-use Rattle.branch.specs.Runs.{AllRead, MadeSteps, Printed, Ran, SomeMade, Stepped, more, next_index, none, step_bytes}
+use Rattle.branch.specs.StepRuns.{AllRead, MadeSteps, Printed, Ran, SomeMade, Stepped, more, next_step_index, none, step_bytes}
 
 module _ (a b : List ℕ) where
   step_front : (j : ℕ) → j * 8 + 8 ≤ length a → step_bytes (a ++ b) j ≡ step_bytes a j
@@ -56,7 +56,7 @@ module _ {D : Type 0} (turns : ℕ → Call → D → Result Outcome Refusal →
           (subst (λ (l : List ℕ). MadeSteps turns (a ++ b) n s w k index l u) (sym (append-nil lines)) (front made (omega arith)))
       after (more {i} {index = x} {lines = l} {lines' = l'} {e = p} {e' = q} before step) =
           let e : (k + i) + 1 ≡ k + (i + 1) = omega arith in
-          subst (λ (m : ℕ). MadeSteps turns (a ++ b) n s w m (next_index x) (lines ++ l') q) e
+          subst (λ (m : ℕ). MadeSteps turns (a ++ b) n s w m (next_step_index x) (lines ++ l') q) e
           (more (after before) (subst (λ (bs : List ℕ). Stepped turns bs x (lines ++ l) p (lines ++ l') q) (sym (step_back a b k i size)) (later lines step)))
 
       whole : (j : ℕ) → length b ≡ j * 8 → length (a ++ b) ≡ (k + j) * 8
@@ -73,7 +73,7 @@ module _ {D : Type 0} (turns : ℕ → Call → D → Result Outcome Refusal →
         made = after ran.made;
         stopped = record {
           read = ap step_of (step_back a b k ran.steps size) ∙ ran.stopped.read;
-          desk = ran.stopped.desk;
+          session = ran.stopped.session;
           line = ap (λ (l : List ℕ). lines ++ l) ran.stopped.line ∙ sym (append_assoc lines ran.before (bad_line index'));
         };
       }
@@ -90,7 +90,7 @@ module _ {D : Type 0} (turns : ℕ → Call → D → Result Outcome Refusal →
         before = ran.before;
         last = ran.last;
         made = front a b ran.made (omega arith);
-        stopped = record { read = ap step_of (step_front a b ran.steps (omega arith)) ∙ ran.stopped.read; desk = ran.stopped.desk; line = ran.stopped.line };
+        stopped = record { read = ap step_of (step_front a b ran.steps (omega arith)) ∙ ran.stopped.read; session = ran.stopped.session; line = ran.stopped.line };
       }
 
   -- where the driver stands: the pieces so far were whole steps, and their lines are written

@@ -1,7 +1,7 @@
-pub mod Steps
-pub mod Lines
-pub mod Desks
-pub mod Turns
-pub mod Runs
+pub mod ProgramSteps
+pub mod StepLines
+pub mod Sessions
+pub mod StepEffects
+pub mod StepRuns
 pub mod Driving
-pub mod Keeping
+pub mod Program

@@ -1,7 +1,7 @@
 // The lines of the program.
 ghost use Rattle.std.specs.Prelude.{◌≡◌, ◌++◌, OnOk, Some, string_bytes};
 ghost use Rattle.std.specs.List.{flat_map};
-ghost use Rattle.branch.specs.Lines.{after_space, bad_line, log_line, step_line};
+ghost use Rattle.branch.specs.StepLines.{after_space, bad_line, log_line, step_line};
 
 use crate::outcome::Outcome;
 use crate::step::Step;

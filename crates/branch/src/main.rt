@@ -4,15 +4,15 @@
 ghost use Rattle.std.specs.Prelude.{◌≡◌, ◌↔◌, ◌<◌, ◌≤◌, Err, OnOk, []};
 ghost use Rattle.std.specs.Io.KnownBytes.{Appends};
 ghost use Rattle.carriers.specs.Lines.{lines_of};
-ghost use Rattle.lives.specs.Worked.{Worked};
+ghost use Rattle.lives.specs.Reachability.{Reachable};
 ghost use Rattle.branch.specs.declared.failure.Failure.TheVariants.{Usage};
-ghost use Rattle.branch.specs.Desks.{JustOpened, all_log_lines, standing};
-ghost use Rattle.branch.specs.Driving.{DeskPrint};
-ghost use Rattle.branch.specs.Keeping.{Finished};
+ghost use Rattle.branch.specs.Sessions.{JustOpened, all_log_lines, configuration_at};
+ghost use Rattle.branch.specs.Driving.{SessionPrint};
+ghost use Rattle.branch.specs.Program.{Finished};
 
-use crate::desk::Desk;
 use crate::failure::Failure;
 use crate::line::add_log;
+use crate::session::Session;
 use carriers::carrier::Carrier;
 use carriers::lines::Lines;
 use chunks::fill;
@@ -27,11 +27,11 @@ use std::io;
 use std::io::{Read, Write};
 use std::process::ExitCode;
 
-mod desk;
 mod failure;
 mod line;
 mod outcome;
 mod reading;
+mod session;
 mod step;
 
 // How many bytes are held at a time: whole steps.
@@ -42,9 +42,9 @@ fn drive<C: Carrier<Body = Job>, R: Read, W: Write>(
     alloc: Global,
     input: &mut R,
     output: &mut W,
-    desk: &mut Desk<'_, '_, C>,
+    session: &mut Session<'_, '_, C>,
 ) -> io::Result<()>
-    ensures { OnOk result (DeskPrint C.Carrier (R.remaining input.old) desk.old (W.contents output.old) (W.contents output.new) desk.new) }
+    ensures { OnOk result (SessionPrint C.Carrier (R.remaining input.old) session.old (W.contents output.old) (W.contents output.new) session.new) }
 {
     let mut held = [0; CHUNK];
     let mut lines = String::new(alloc);
@@ -53,7 +53,7 @@ fn drive<C: Carrier<Body = Job>, R: Read, W: Write>(
     for _ in 0..u64::MAX {
         lines.clear();
         let read = fill(input, &mut held)?;
-        let made = desk.make_steps(&held[..read], &mut index, &mut lines)?;
+        let made = session.make_steps(&held[..read], &mut index, &mut lines)?;
         output.write_all(lines.as_bytes())?;
         if made.is_err() || read < CHUNK {
             return Ok(());
@@ -63,13 +63,17 @@ fn drive<C: Carrier<Body = Job>, R: Read, W: Write>(
 }
 
 // Prints the logs of all seats.
-fn print_logs<C, W: Write>(alloc: Global, output: &mut W, desk: &Desk<'_, '_, C>) -> io::Result<()>
-    ensures { OnOk result (Appends (W.contents output.old) (W.contents output.new) (all_log_lines desk.now)) }
+fn print_logs<C, W: Write>(
+    alloc: Global,
+    output: &mut W,
+    session: &Session<'_, '_, C>,
+) -> io::Result<()>
+    ensures { OnOk result (Appends (W.contents output.old) (W.contents output.new) (all_log_lines session.now)) }
 {
     let mut lines = String::new(alloc);
     // No room has more seats, and a seat that this one lacks has no log.
     for seat in 0..16 {
-        if let Ok(log) = desk.room.log(desk.logs, desk.holds, seat) {
+        if let Ok(log) = session.room.log(session.logs, session.holds, seat) {
             add_log(&mut lines, seat, log)?;
         }
     }
@@ -81,10 +85,10 @@ fn open_room<'l, 'h, 'q>(
     logs: &'l mut [Letter<Job>; 36],
     holds: &'h mut [Letter<Job>; 36],
     queues: &'q mut [Letter<Job>; 12],
-) -> Desk<'l, 'h, Lines<'q, Job>>
+) -> Session<'l, 'h, Lines<'q, Job>>
     ensures opened { JustOpened result }
     ensures tables { (result.logs.now ≡ logs.old) × (result.holds.now ≡ holds.old) }
-    ensures worked { Worked [] (standing lines_of result) }
+    ensures reachable { Reachable [] (configuration_at lines_of result) }
 {
     let mut draft = Draft::new(1, 4);
     // Names are any numbers but 0. A no would show at the opening.
@@ -93,7 +97,7 @@ fn open_room<'l, 'h, 'q>(
     let _ = draft.enrol(3);
     let carrier = Lines::new(queues, 3, 4);
     let room = draft.open(logs, holds, &carrier);
-    Desk {
+    Session {
         room,
         logs,
         holds,
@@ -115,9 +119,9 @@ fn run<K: Sheet<Body = Job>, R: Read, W: Write>(
     let mut logs = [blank; 36];
     let mut holds = [blank; 36];
     let mut queues = [blank; 12];
-    let mut desk = open_room(&mut logs, &mut holds, &mut queues);
-    drive(alloc, input, output, &mut desk)?;
-    print_logs(alloc, output, &desk)
+    let mut session = open_room(&mut logs, &mut holds, &mut queues);
+    drive(alloc, input, output, &mut session)?;
+    print_logs(alloc, output, &session)
 }
 
 // The program as it was called, with so many words, of which the first is its name. It takes no arguments: where a second word
@@ -148,7 +152,7 @@ fn count_words(rt: &HostRuntime) -> usize {
     usize::MAX
 }
 
-// A failure is told on the standard error, and ends the program with status 1.
+// A failure is printed on the standard error, and ends the program with status 1.
 fn main(rt: HostRuntime) -> io::Result<ExitCode> {
     let words = count_words(&rt);
     let (input, output) = (&mut rt.stdin(), &mut io::writer(&rt));

@@ -1,8 +1,8 @@
 // Reading steps.
 ghost use Rattle.std.specs.Prelude.{◌≡◌};
-ghost use Rattle.letters.specs.Jobs.{said};
-ghost use Rattle.letters.specs.Refusals.{told};
-ghost use Rattle.branch.specs.Steps.{job_brought, step_brought, step_of};
+ghost use Rattle.letters.specs.Jobs.{content_of_job};
+ghost use Rattle.letters.specs.Refusals.{as_answer};
+ghost use Rattle.branch.specs.ProgramSteps.{content_of_step, job_of_post, step_of};
 
 use crate::step::{Call, NoStep, Step};
 use letters::job::Job;
@@ -12,7 +12,7 @@ use letters::refusal::Refusal;
 impl TryFrom<&[u8]> for Step {
     type Error = NoStep;
 
-    ghost try_from_gives = { λ bytes step. step_brought step ≡ step_of bytes.now };
+    ghost try_from_gives = { λ bytes step. content_of_step step ≡ step_of bytes.now };
 
     fn try_from(bytes: &[u8]) -> Result<Step, NoStep> {
         let (call, seat) = match bytes {
@@ -33,7 +33,7 @@ impl TryFrom<&[u8]> for Step {
 
 // The job of a post.
 fn read_job(kind: u8, poster: u8, value: [u8; 4]) -> Result<Job, Refusal>
-    ensures { told said result ≡ job_brought kind poster value }
+    ensures { as_answer content_of_job result ≡ job_of_post kind poster value }
 {
     match kind {
         1 => Ok(Job::Add(u32::from_le_bytes(value))),

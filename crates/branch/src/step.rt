@@ -1,6 +1,6 @@
 // A step of the program.
 ghost use Rattle.std.specs.Prelude.{Some};
-ghost use Rattle.branch.specs.Lines.{call_name};
+ghost use Rattle.branch.specs.StepLines.{call_name};
 
 use letters::job::Job;
 use letters::refusal::Refusal;

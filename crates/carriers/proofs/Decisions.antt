@@ -2,7 +2,7 @@
 use Rattle.std.proofs.Common.{◌≡◌, ℕ, ◌<◌, ◌≤◌, true, map, get_or, Ok, Err, Result, sym, arith}
 use Rattle.std.proofs.lemmas.Bool.{lt-ltb, le-ltb}
 use Rattle.letters.specs.declared.refusal.Refusal.{Refusal}
-use Rattle.letters.specs.Refusals.{Reason, plain, reason, told}
+use Rattle.letters.specs.Refusals.{Reason, as_answer, plain, reason_of}
 use Rattle.carriers.specs.Meaning.{Meaning, PutOn, Drawn, PutLeaves, DrawLeaves, waits_at, put_answer, draw_answer}
 
 module _ {L : Type 0} (m : Meaning L) where
@@ -25,27 +25,27 @@ clash u w e = let z : ◌≡◌ {A = ℕ} 0 1 = cc in absurd (omega arith)
 -- what the answer says of what is left
 module _ {L : Type 0} (m m' : Meaning L) where
   module _ (p : ℕ) (x : L) where
-    pub put_accepted : (r : Result (Unit {0}) Refusal) → told (λ u. u) r ≡ Ok tt → PutLeaves r m p x m' → PutOn m p x m'
+    pub put_accepted : (r : Result (Unit {0}) Refusal) → as_answer (λ u. u) r ≡ Ok tt → PutLeaves r m p x m' → PutOn m p x m'
     put_accepted (Ok u) e l = l
-    put_accepted (Err why) e l = clash tt (reason why) e
+    put_accepted (Err why) e l = clash tt (reason_of why) e
 
-    pub accepted_put : (r : Result (Unit {0}) Refusal) → told (λ u. u) r ≡ Ok tt → PutOn m p x m' → PutLeaves r m p x m'
+    pub accepted_put : (r : Result (Unit {0}) Refusal) → as_answer (λ u. u) r ≡ Ok tt → PutOn m p x m' → PutLeaves r m p x m'
     accepted_put (Ok u) e l = l
-    accepted_put (Err why) e l = clash tt (reason why) e
+    accepted_put (Err why) e l = clash tt (reason_of why) e
 
   module _ {P : Type 0} (see : L → P) (seat place : ℕ) (lent filled : P) where
-    pub draw_accepted : (r : Result (Unit {0}) Refusal) → told (λ u. u) r ≡ Ok tt → DrawLeaves see r m seat place m' lent filled → Drawn m seat place m' × (filled ≡ get_or (map see (m.waiting seat)) place lent)
+    pub draw_accepted : (r : Result (Unit {0}) Refusal) → as_answer (λ u. u) r ≡ Ok tt → DrawLeaves see r m seat place m' lent filled → Drawn m seat place m' × (filled ≡ get_or (map see (m.waiting seat)) place lent)
     draw_accepted (Ok u) e l = l
-    draw_accepted (Err why) e l = clash tt (reason why) e
+    draw_accepted (Err why) e l = clash tt (reason_of why) e
 
-    pub accepted_draw : (r : Result (Unit {0}) Refusal) → told (λ u. u) r ≡ Ok tt → Drawn m seat place m' × (filled ≡ get_or (map see (m.waiting seat)) place lent) → DrawLeaves see r m seat place m' lent filled
+    pub accepted_draw : (r : Result (Unit {0}) Refusal) → as_answer (λ u. u) r ≡ Ok tt → Drawn m seat place m' × (filled ≡ get_or (map see (m.waiting seat)) place lent) → DrawLeaves see r m seat place m' lent filled
     accepted_draw (Ok u) e l = l
-    accepted_draw (Err why) e l = clash tt (reason why) e
+    accepted_draw (Err why) e l = clash tt (reason_of why) e
 
-    pub draw_refused : (r : Result (Unit {0}) Refusal) (w : Reason) → told (λ u. u) r ≡ Err w → DrawLeaves see r m seat place m' lent filled → (m' ≡ m) × (filled ≡ lent)
+    pub draw_refused : (r : Result (Unit {0}) Refusal) (w : Reason) → as_answer (λ u. u) r ≡ Err w → DrawLeaves see r m seat place m' lent filled → (m' ≡ m) × (filled ≡ lent)
     draw_refused (Ok u) w e l = clash u w (sym e)
     draw_refused (Err why) w e l = l
 
-    pub refused_draw : (r : Result (Unit {0}) Refusal) (w : Reason) → told (λ u. u) r ≡ Err w → (m' ≡ m) × (filled ≡ lent) → DrawLeaves see r m seat place m' lent filled
+    pub refused_draw : (r : Result (Unit {0}) Refusal) (w : Reason) → as_answer (λ u. u) r ≡ Err w → (m' ≡ m) × (filled ≡ lent) → DrawLeaves see r m seat place m' lent filled
     refused_draw (Ok u) w e l = clash u w (sym e)
     refused_draw (Err why) w e l = l

@@ -8,7 +8,7 @@ use Rattle.std.proofs.lemmas.Slice.{take-put_mid_below, drop-put_mid}
 use Rattle.std.specs.List.{copy_within, remove}
 use Rattle.std.proofs.lemmas.List.{get_or-take}
 use Rattle.carriers.specs.Places.{OnlyAt, part_at}
-use Rattle.carriers.specs.LineLaws.{queue_end}
+use Rattle.carriers.specs.LineLemmas.{queue_end}
 
 module _ {X : Type 0} (start size : ℕ) (row : List X) (fits : start + size ≤ length row) where
   -- the part of the row that is lent to one queue, as the code cuts it

@@ -1,8 +1,8 @@
 pub mod Putting
 pub mod Meaning
 pub mod Appending
-pub mod Resting
+pub mod RestingLemmas
 pub mod Serving
 pub mod Places
 pub mod Lines
-pub mod LineLaws
+pub mod LineLemmas

@@ -20,7 +20,7 @@ module _ {L : Type 0} where
   Empty m = (k : ℕ) → m.waiting k ≡ []
 
   -- what holds of every carrier
-  pub record Lawful (m : Meaning L) : Type 0 where
+  pub record LawfulMeaning (m : Meaning L) : Type 0 where
     pub some_seats : 1 ≤ m.seats
     pub few_seats : m.seats ≤ 16
     pub no_waiting : (k : ℕ) → m.seats ≤ k → m.waiting k ≡ []
@@ -60,6 +60,6 @@ module _ {L : Type 0} where
   DrawLeaves parts (Err _) m seat place after lent filled = (after ≡ m) × (filled ≡ lent)
 
 -- on refusal, memory is as it was
-abbrev pub Kept : {X E : Type 0} → Result (Unit {0}) E → X → X → Type 0
-Kept (Ok _) before after = Unit {0}
-Kept (Err _) before after = after ≡ before
+abbrev pub UnchangedIfRefused : {X E : Type 0} → Result (Unit {0}) E → X → X → Type 0
+UnchangedIfRefused (Ok _) before after = Unit {0}
+UnchangedIfRefused (Err _) before after = after ≡ before

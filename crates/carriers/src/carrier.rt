@@ -3,8 +3,8 @@ ghost use Rattle.std.specs.Prelude.{◌≡◌, OnOk};
 ghost use Rattle.std.specs.Result.{OnErr};
 ghost use Rattle.letters.specs.declared.letter.Letter.{Letter};
 ghost use Rattle.letters.specs.Letters.{parts_of};
-ghost use Rattle.letters.specs.Refusals.{told};
-ghost use Rattle.carriers.specs.Meaning.{DrawLeaves, Lawful, Meaning, PutLeaves, draw_answer, put_answer, waits_at};
+ghost use Rattle.letters.specs.Refusals.{as_answer};
+ghost use Rattle.carriers.specs.Meaning.{DrawLeaves, LawfulMeaning, Meaning, PutLeaves, draw_answer, put_answer, waits_at};
 
 use letters::body::Body;
 use letters::letter::Letter;
@@ -17,7 +17,7 @@ pub trait Carrier {
 
     ghost meaning: { Self → Meaning (Letter Self.Body) };
 
-    ghost lawful: { (c : Self) → Lawful (meaning c) };
+    ghost lawful: { (c : Self) → LawfulMeaning (meaning c) };
 
     // What one put of a letter does to the carrier itself. Two puts of a letter, and one that brings it twice, can leave the same
     // meaning; each make of carrier defines here what one put of its own does.
@@ -43,7 +43,7 @@ pub trait Carrier {
 
     // Takes a letter for every seat but its poster; 8 where the poster is no seat here, 11 where it does not fit.
     fn put(&mut self, letter: &Letter<Self::Body>) -> Result<(), Refusal>
-        ensures answer { told (λ u. u) result ≡ put_answer (meaning self.old) letter.now.poster }
+        ensures answer { as_answer (λ u. u) result ≡ put_answer (meaning self.old) letter.now.poster }
         ensures leaves { PutLeaves result (meaning self.old) letter.now.poster letter.now (meaning self.new) }
         ensures once { OnOk result (puts self.old letter.now self.new) }
         ensures rests { OnErr result (rests self.old self.new) };
@@ -51,7 +51,7 @@ pub trait Carrier {
     // Takes out the letter that waits at a place and fills the lent parts with its own; 8 where there is no such seat,
     // 14 where the place is past those that wait.
     fn draw(&mut self, seat: u8, place: u32, parts: &mut Parts<Self::Body>) -> Result<(), Refusal>
-        ensures answer { told (λ u. u) result ≡ draw_answer (meaning self.old) seat place }
+        ensures answer { as_answer (λ u. u) result ≡ draw_answer (meaning self.old) seat place }
         ensures leaves { DrawLeaves parts_of result (meaning self.old) seat place (meaning self.new) parts.old parts.new }
         ensures rests { OnErr result (rests self.old self.new) };
 }

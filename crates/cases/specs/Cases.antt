@@ -9,7 +9,7 @@ use Rattle.letters.specs.declared.stamp.Stamp.{Stamp}
 use Rattle.letters.specs.Letters.{entry_at}
 use Rattle.letters.specs.Order.{covers, ready, side_by_side}
 use Rattle.letters.specs.Refusals.{Reason}
-use Rattle.rooms.specs.Drafts.{DraftState, drafted, enrol_answer, enrol_check, enrolled}
+use Rattle.rooms.specs.Drafts.{DraftState, draft_with_name, enrol_answer, enrol_check, state_of_new_draft}
 use Rattle.sheet_kinds.specs.declared.open_job.OpenJob.{OpenJob}
 use Rattle.sheet_kinds.specs.JobLists.{job_does, open_job}
 use Rattle.sheets.specs.Pages.{page_count}
@@ -56,8 +56,8 @@ pub data Case : Type 0 where
   -- how many pages do so many rows take?
   takes_pages : (rows pages : ℕ) → Case
 
-abbrev agree : Bool → Bool → Bool
-agree a b = cond a b (not b)
+abbrev same_answer : Bool → Bool → Bool
+same_answer a b = cond a b (not b)
 
 -- the number of a refusal, and 0 where there is none
 abbrev no_number : {X : Type 0} → Result X Reason → ℕ
@@ -66,8 +66,8 @@ no_number (Err why) = why.number
 
 -- what a draft of the quota holds after so many enrolments, one after the other, under the names 1, 2, 3 and so on
 abbrev drafted_so_far : ℕ → ℕ → DraftState
-drafted_so_far quota zero = drafted 0 quota
-drafted_so_far quota (suc n) = let d = drafted_so_far quota n in enrolled d (enrol_answer d (n + 1)) (n + 1)
+drafted_so_far quota zero = state_of_new_draft 0 quota
+drafted_so_far quota (suc n) = let d = drafted_so_far quota n in draft_with_name d (enrol_answer d (n + 1)) (n + 1)
 
 abbrev same_job : OpenJob → OpenJob → Bool
 same_job j k = j.poster == k.poster && j.number == k.number && j.code == k.code
@@ -79,9 +79,9 @@ same_jobs (j ∷ js) [] = false
 same_jobs (j ∷ js) (k ∷ ks) = same_job j k && same_jobs js ks
 
 abbrev holds : Case → Bool
-holds (is_ready clock m answer) = agree (ready 3 4 2 clock m) answer
-holds (are_beside m k answer) = agree (side_by_side m k) answer
-holds (does_cover m p n answer) = agree (covers m.stamp p n) answer
+holds (is_ready clock m answer) = same_answer (ready 3 4 2 clock m) answer
+holds (are_beside m k answer) = same_answer (side_by_side m k) answer
+holds (does_cover m p n answer) = same_answer (covers m.stamp p n) answer
 holds (begins_with seats poster mask draws) = all_but seats poster == mask && count_ones mask == draws
 holds (marks_all seats mask) = full seats == mask && (count_ones mask == seats && seats_marked mask 16 == seats)
 holds (spool_refused bytes number) = no_number (spool_answer 5 bytes) == number

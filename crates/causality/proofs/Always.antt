@@ -5,8 +5,8 @@ use Rattle.causality.specs.declared.docket.DocketState.{DocketState}
 use Rattle.causality.specs.declared.docket.DocketState.TheVariants.{Clear, Out, Parked}
 use Rattle.letters.specs.Lists.{there}
 use Rattle.causality.specs.History.{Event, History, posted, shown, posted_letters}
-use Rattle.causality.specs.Worlds.{Box, World, Opened, SameWaiting}
-use Rattle.causality.specs.Steps.{Refuses, Posts, Sends, MovesDocket, Takes, Shows, Step, refuses, posts, sends, parks, collects, takes, shows}
+use Rattle.causality.specs.Worlds.{Box, World, InitialWorld, SameWaiting}
+use Rattle.causality.specs.WorldSteps.{WorldRefusal, WorldPost, WorldSend, MovesDocket, WorldTake, WorldShow, WorldStep, refuses, posts, sends, parks, collects, takes, shows}
 use Rattle.causality.specs.Runs.{Run, opened, more}
 use Rattle.causality.proofs.Lists.{in_eq, in_middle}
 use Rattle.causality.proofs.Steps.{same_part}
@@ -24,21 +24,21 @@ module _ {B : Type 0} (N Q : ℕ) where
   same_waits : (w w' : World B) (ls : List (Letter B)) → SameWaiting w w' → Waits N ls w → Waits N ls w'
   same_waits w w' ls same = waits_same N w w' ls ls (λ m i. i) (λ t m i. in_eq (same t) i)
 
-  at_opening : (w : World B) → Opened w → Always w []
+  at_opening : (w : World B) → InitialWorld w → Always w []
   at_opening w step = record {
     books = books_opened N Q w step;
     holds = holds_opened w step;
     waiting = waits_opened N w step;
   }
 
-  after_refusal : (w w' : World B) (h : History (Letter B)) → Refuses w w' → Always w h → Always w' h
+  after_refusal : (w w' : World B) (h : History (Letter B)) → WorldRefusal w w' → Always w h → Always w' h
   after_refusal w w' h step ok = record {
     books = books_same N Q w w' h (λ t. ap (λ (b : Box B). b.clock) (step.box t)) (λ t. ap (λ (b : Box B). b.log) (step.box t)) ok.books;
     holds = λ t. subst (λ (b : Box B). HoldOk (posted_letters h) b.clock b.hold) (sym (step.box t)) (ok.holds t);
     waiting = same_waits w w' (posted_letters h) step.waiting ok.waiting;
   }
 
-  after_post : (m : Letter B) (w w' : World B) (h : History (Letter B)) → Posts N Q m.poster m w w' → Always w h → Always w' (posted m.poster m ∷ h)
+  after_post : (m : Letter B) (w w' : World B) (h : History (Letter B)) → WorldPost N Q m.poster m w w' → Always w h → Always w' (posted m.poster m ∷ h)
   after_post m w w' h step ok = record {
     books = books_post N Q m w w' h step ok.books;
     holds = holds_post N Q m w w' h step ok.books ok.holds;
@@ -55,7 +55,7 @@ module _ {B : Type 0} (N Q : ℕ) where
       hold_same ls (w.box t) (w'.box t) (same_part (λ (b : Box B). b.clock) s w w' step.elsewhere step.clock t)
       (same_part (λ (b : Box B). b.hold) s w w' step.elsewhere step.hold t) (ok t)
 
-  after_send : (s : ℕ) (m : Letter B) (w w' : World B) (h : History (Letter B)) → Sends N Q s m w w' → Always w h → Always w' h
+  after_send : (s : ℕ) (m : Letter B) (w w' : World B) (h : History (Letter B)) → WorldSend N Q s m w w' → Always w h → Always w' h
   after_send s m w w' h step ok = record {
     books = moved_books Out Clear s w w' h step.moves ok.books;
     holds = moved_holds Out Clear s w w' (posted_letters h) step.moves ok.holds;
@@ -71,7 +71,7 @@ module _ {B : Type 0} (N Q : ℕ) where
     waiting = same_waits w w' (posted_letters h) same ok.waiting;
   }
 
-  after-take : (s place : ℕ) (m : Letter B) (w w' : World B) (h : History (Letter B)) → Takes N Q s place m w w' → Always w h → Always w' h
+  after-take : (s place : ℕ) (m : Letter B) (w w' : World B) (h : History (Letter B)) → WorldTake N Q s place m w w' → Always w h → Always w' h
   after-take s place m w w' h step ok = record {
     books = books_same N Q w w' h
         (same_part (λ (b : Box B). b.clock) s w w' step.elsewhere step.clock)
@@ -80,7 +80,7 @@ module _ {B : Type 0} (N Q : ℕ) where
     waiting = waits_take N Q s place m w w' (posted_letters h) step ok.waiting;
   }
 
-  after_show : (s : ℕ) (m : Letter B) (w w' : World B) (h : History (Letter B)) → Shows N Q s m w w' → Always w h → Always w' (shown s m ∷ h)
+  after_show : (s : ℕ) (m : Letter B) (w w' : World B) (h : History (Letter B)) → WorldShow N Q s m w w' → Always w h → Always w' (shown s m ∷ h)
   after_show s m w w' h step ok = record {
     books = books_show N Q s m w w' h step
         ((ok.holds s).known m (in_eq (sym step.found) (in_middle m step.before step.after))) ok.books;
@@ -88,11 +88,11 @@ module _ {B : Type 0} (N Q : ℕ) where
     waiting = same_waits w w' (posted_letters h) step.waiting ok.waiting;
   }
 
-  after_step : (w w' : World B) (h : History (Letter B)) (new : List (Event (Letter B))) → Step N Q w w' new → Always w h → Always w' (new ++ h)
+  after_step : (w w' : World B) (h : History (Letter B)) (new : List (Event (Letter B))) → WorldStep N Q w w' new → Always w h → Always w' (new ++ h)
   after_step w w' h new (refuses step) ok = after_refusal w w' h step ok
   after_step w w' h new (posts {s = s} {m = m} step) ok =
       subst (λ (t : ℕ). Always w' (posted t m ∷ h)) step.poster
-      (after_post m w w' h (subst (λ (t : ℕ). Posts N Q t m w w') (sym step.poster) step) ok)
+      (after_post m w w' h (subst (λ (t : ℕ). WorldPost N Q t m w w') (sym step.poster) step) ok)
   after_step w w' h new (sends {s = s} {m = m} step) ok = after_send s m w w' h step ok
   after_step w w' h new (parks {s = s} step) ok = after_move Out Parked s w w' h step.moves step.waiting ok
   after_step w w' h new (collects {s = s} step) ok = after_move Parked Out s w w' h step.moves step.waiting ok

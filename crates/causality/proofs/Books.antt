@@ -4,13 +4,13 @@ use native.Mathlib.Decide.{ℕ_discrete, dec_le}
 use mathlib.Core.Path.{fun_ext}
 use Rattle.letters.specs.declared.letter.Letter.{Letter}
 use Rattle.letters.specs.Letters.{entry_at, letter_name, number_of}
-use Rattle.letters.specs.Names.{Name, name}
+use Rattle.letters.specs.Names.{Name, name_from}
 use Rattle.letters.specs.Order.{Covers, CoversLetter, SameLetter}
 use Rattle.letters.specs.Lists.{◌∈◌, here, there}
-use Rattle.causality.specs.Logs.{Stands}
+use Rattle.causality.specs.LetterLists.{HasLetter}
 use Rattle.causality.specs.History.{History, posted, shown, posted_letters, Seen, Before}
-use Rattle.causality.specs.Worlds.{Box, World, Opened}
-use Rattle.causality.specs.Steps.{Posts, Shows}
+use Rattle.causality.specs.Worlds.{Box, World, InitialWorld}
+use Rattle.causality.specs.WorldSteps.{WorldPost, WorldShow}
 use Rattle.causality.proofs.Lists.{in_eq, by_seat, in_none, in_cons}
 use Rattle.causality.proofs.Counting.{Numbered}
 use Rattle.causality.proofs.Steps.{seen_more, logged_more, post_else, post_grows, show_else, show_grows, show_own}
@@ -24,7 +24,7 @@ module _ {B : Type 0} where
 
   -- the letters p.n that m covers, but for itself, are among ls
   abbrev pub GroundedIn : List (Letter B) → Letter B → Type 0
-  GroundedIn ls m = (p n : ℕ) → 1 ≤ n → Covers m p n → ¬ (letter_name m ≡ name p n) → Stands (name p n) ls
+  GroundedIn ls m = (p n : ℕ) → 1 ≤ n → Covers m p n → ¬ (letter_name m ≡ name_from p n) → HasLetter (name_from p n) ls
 
   -- what a posted letter covers was posted before it
   abbrev pub Grounded : History (Letter B) → Type 0
@@ -89,9 +89,9 @@ module _ {B : Type 0} (N Q : ℕ) (ls : List (Letter B)) (top top' : ℕ → ℕ
         (λ (e : k ≡ m). subst (λ (x : Letter B). number_of x ≤ top' x.poster) (sym e) (omega arith))
         (λ (j : k ∈ ls). let h = ok.high k j in let g = top_grows k.poster in omega arith) (in_cons i);
     unique = λ k l i j e. one k l e (in_cons i) (in_cons j);
-    listed = λ p n low high. by_seat m.poster (λ p. n ≤ top' p → Stands (name p n) (m ∷ ls))
+    listed = λ p n low high. by_seat m.poster (λ p. n ≤ top' p → HasLetter (name_from p n) (m ∷ ls))
         (λ high. at_own n low high (dec_le n (top m.poster)))
-        (λ p ne high. let e = rest p ne in old (name p n) (ok.listed p n low (omega arith))) p high;
+        (λ p ne high. let e = rest p ne in old (name_from p n) (ok.listed p n low (omega arith))) p high;
   }
     where
       one : (k l : Letter B) → SameLetter k l → (k ≡ m) ⊎ (k ∈ ls) → (l ≡ m) ⊎ (l ∈ ls) → k ≡ l
@@ -100,15 +100,15 @@ module _ {B : Type 0} (N Q : ℕ) (ls : List (Letter B)) (top top' : ℕ → ℕ
       one k l e (inr i) (inl q) = absurd (fresh k i (subst (λ (x : Letter B). SameLetter x k) q (same_turned k l e)))
       one k l e (inr i) (inr j) = ok.unique k l i j e
 
-      old : (i : Name) → Stands i ls → Stands i (m ∷ ls)
+      old : (i : Name) → HasLetter i ls → HasLetter i (m ∷ ls)
       old i r = record { letter = r.letter; inside = there r.inside; called = r.called }
 
-      at_own : (n : ℕ) → 1 ≤ n → n ≤ top' m.poster → Dec (n ≤ top m.poster) → Stands (name m.poster n) (m ∷ ls)
-      at_own n low high (yes l) = old (name m.poster n) (ok.listed m.poster n low l)
-      at_own n low high (no l) = let e : number_of m ≡ n = omega arith in record { letter = m; inside = here refl; called = ap (name m.poster) e }
+      at_own : (n : ℕ) → 1 ≤ n → n ≤ top' m.poster → Dec (n ≤ top m.poster) → HasLetter (name_from m.poster n) (m ∷ ls)
+      at_own n low high (yes l) = old (name_from m.poster n) (ok.listed m.poster n low l)
+      at_own n low high (no l) = let e : number_of m ≡ n = omega arith in record { letter = m; inside = here refl; called = ap (name_from m.poster) e }
 
 -- Post.
-module _ {B : Type 0} (N Q : ℕ) (m : Letter B) (w w' : World B) (h : History (Letter B)) (step : Posts N Q m.poster m w w')
+module _ {B : Type 0} (N Q : ℕ) (m : Letter B) (w w' : World B) (h : History (Letter B)) (step : WorldPost N Q m.poster m w w')
     (ok : Books N Q (clocks w) (logs_of w) h) where
   clock_at : (t p : ℕ) → ¬ (t ≡ m.poster) → (w'.box t).clock p ≡ (w.box t).clock p
   clock_at = post_else N Q m w w' step
@@ -206,9 +206,9 @@ module _ {B : Type 0} (N Q : ℕ) (m : Letter B) (w w' : World B) (h : History (
       grounded' : GroundedIn (posted_letters h) m
       grounded' p n low high other = go (ℕ_discrete p m.poster)
         where
-          go : Dec (p ≡ m.poster) → Stands (name p n) (posted_letters h)
+          go : Dec (p ≡ m.poster) → HasLetter (name_from p n) (posted_letters h)
           go (yes e) =
-              let d : ¬ (n ≡ number_of m) = λ q. other (λ j. name (sym e j) (sym q j)) in
+              let d : ¬ (n ≡ number_of m) = λ q. other (λ j. name_from (sym e j) (sym q j)) in
               let a = ap (entry_at m.stamp) e in
               let b = ap (λ (t : ℕ). (w.box t).clock t) e in
               let c = step.own in
@@ -216,7 +216,7 @@ module _ {B : Type 0} (N Q : ℕ) (m : Letter B) (w w' : World B) (h : History (
           go (no ne) = let a = step.rest p ne in let b = ok.behind m.poster p in ok.ids.listed p n low (omega arith)
 
 -- Show.
-module _ {B : Type 0} (N Q s : ℕ) (m : Letter B) (w w' : World B) (h : History (Letter B)) (step : Shows N Q s m w w')
+module _ {B : Type 0} (N Q s : ℕ) (m : Letter B) (w w' : World B) (h : History (Letter B)) (step : WorldShow N Q s m w w')
     (listed : m ∈ posted_letters h) (ok : Books N Q (clocks w) (logs_of w) h) where
   tops_same : (p : ℕ) → (w'.box p).clock p ≡ (w.box p).clock p
   tops_same = show_own N Q s m w w' step
@@ -269,7 +269,7 @@ module _ {B : Type 0} (N Q s : ℕ) (m : Letter B) (w w' : World B) (h : History
 
 -- Opening, and the steps that change neither a clock nor a log.
 module _ {B : Type 0} (N Q : ℕ) where
-  pub books_opened : (w : World B) → Opened w → Books N Q (clocks w) (logs_of w) []
+  pub books_opened : (w : World B) → InitialWorld w → Books N Q (clocks w) (logs_of w) []
   books_opened w step = record {
     ids = record {
       numbered = λ m i. absurd (in_none i);

@@ -5,8 +5,8 @@ use Rattle.std.proofs.lemmas.List.{length-map}
 use Rattle.letters.specs.declared.letter.Letter.{Letter}
 use Rattle.letters.specs.Letters.{number_of}
 use Rattle.letters.specs.Order.{SameLetter}
-use Rattle.letters.specs.Lists.{◌∈◌, here, there, Apart}
-use Rattle.letters.specs.Logs.{Once}
+use Rattle.letters.specs.Lists.{◌∈◌, here, there, NoPair}
+use Rattle.letters.specs.Logs.{NoDuplicates}
 use Rattle.causality.proofs.Lists.{in_none, in_cons, in_eq, in_kept, in_as, split, length_cut, apart_cut}
 
 -- a number stands in a list of numbers, or not
@@ -20,15 +20,15 @@ find n (x ∷ l) = go (ℕ_discrete n x) (find n l)
     go (no ne) (inr none) = inr (λ i. ⊎_elim ne none (in_cons i))
 
 -- the pigeonhole principle: different numbers below n are at most n
-pub pigeonhole : (n : ℕ) (l : List ℕ) → Apart ◌≡◌ l → ((x : ℕ) → x ∈ l → x < n) → length l ≤ n
+pub pigeonhole : (n : ℕ) (l : List ℕ) → NoPair ◌≡◌ l → ((x : ℕ) → x ∈ l → x < n) → length l ≤ n
 pigeonhole zero [] p small = omega arith
 pigeonhole zero (x ∷ l) p small = let h = small x (here refl) in omega arith
 pigeonhole (suc n) l p small = go (λ l' p' small'. pigeonhole n l' p' small') (find n l)
   where
-    go : ((l' : List ℕ) → Apart ◌≡◌ l' → ((x : ℕ) → x ∈ l' → x < n) → length l' ≤ n) → (n ∈ l) ⊎ (¬ (n ∈ l)) → length l ≤ suc n
+    go : ((l' : List ℕ) → NoPair ◌≡◌ l' → ((x : ℕ) → x ∈ l' → x < n) → length l' ≤ n) → (n ∈ l) ⊎ (¬ (n ∈ l)) → length l ≤ suc n
     go fewer (inl i) =
         let s = split l i in
-        let cut = apart_cut ◌≡◌ (λ u v q. sym q) n s.0 s.1 (subst (Apart ◌≡◌) s.2 p) in
+        let cut = apart_cut ◌≡◌ (λ u v q. sym q) n s.0 s.1 (subst (NoPair ◌≡◌) s.2 p) in
         let rest : length (s.0 ++ s.1) ≤ n = fewer (s.0 ++ s.1) cut.0 (λ y j.
         let h = small y (in_eq (sym s.2) (in_kept n s.0 s.1 j)) in
         let d = cut.1 y j in
@@ -79,7 +79,7 @@ module _ {B : Type 0} (N Q : ℕ) where
       go (no l) (yes g) = let h = mul-le-mul_right Q g in let a = ok.high in let b = ok.low in omega arith
       go (no l) (no g) = other (omega arith)
 
-  apart_codes : (l : List (Letter B)) → ((m : Letter B) → m ∈ l → Numbered m) → Once l → Apart ◌≡◌ (map code l)
+  apart_codes : (l : List (Letter B)) → ((m : Letter B) → m ∈ l → Numbered m) → NoDuplicates l → NoPair ◌≡◌ (map code l)
   apart_codes [] ok p = tt
   apart_codes (m ∷ l) ok p = (
     λ n i e.
@@ -89,7 +89,7 @@ module _ {B : Type 0} (N Q : ℕ) where
   )
 
   -- such letters are at most N * Q
-  pub at_most : (l : List (Letter B)) → ((m : Letter B) → m ∈ l → Numbered m) → Once l → length l ≤ N * Q
+  pub at_most : (l : List (Letter B)) → ((m : Letter B) → m ∈ l → Numbered m) → NoDuplicates l → length l ≤ N * Q
   at_most l ok once =
       let long = length-map l code in
       let most : length (map code l) ≤ N * Q = pigeonhole (N * Q) (map code l) (apart_codes l ok once) (λ n i.
@@ -101,7 +101,7 @@ module _ {B : Type 0} (N Q : ℕ) where
 
   -- letters of seats other than s are fewer than N * Q
   pub fewer : (s : ℕ) → s < N → 1 ≤ Q → (l : List (Letter B)) → ((m : Letter B) → m ∈ l → Numbered m)
-      → ((m : Letter B) → m ∈ l → ¬ (m.poster ≡ s)) → Once l → length l < N * Q
+      → ((m : Letter B) → m ∈ l → ¬ (m.poster ≡ s)) → NoDuplicates l → length l < N * Q
   fewer s seat some l ok other once =
       let long = length-map l code in
       let most : length (s * Q ∷ map code l) ≤ N * Q = pigeonhole (N * Q) (s * Q ∷ map code l) (first, apart_codes l ok once) small in

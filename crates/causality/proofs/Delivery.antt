@@ -9,7 +9,7 @@ use Rattle.letters.specs.Order.{SameLetter}
 use Rattle.letters.specs.Lists.{◌∈◌}
 use Rattle.causality.specs.History.{Event, History, posted_letters}
 use Rattle.causality.specs.Worlds.{Box, World}
-use Rattle.causality.specs.Steps.{Posts, Sends, MovesDocket, Takes, Shows, Repeat, covered, among_held, Outcome, stray, repeat, held, Step, refuses, posts, sends, parks, collects, takes, shows}
+use Rattle.causality.specs.WorldSteps.{WorldPost, WorldSend, MovesDocket, WorldTake, WorldShow, Repeat, covered, among_held, Outcome, stray, repeat, held, WorldStep, refuses, posts, sends, parks, collects, takes, shows}
 use Rattle.causality.specs.Runs.{Run, opened, more}
 use Rattle.causality.proofs.Lists.{in_eq, in_as, in_none, by_seat, in_cons, in_left, in_middle, in_cases}
 use Rattle.causality.proofs.Puts.{gains_copy, gains_kept}
@@ -56,7 +56,7 @@ module _ {B : Type 0} where
       (ok m i t l ne)
 
 module _ {B : Type 0} (N Q : ℕ) where
-  delivery_post : (m : Letter B) (w w' : World B) (ls : List (Letter B)) → Posts N Q m.poster m w w' → Delivery N ls w → Delivery N (m ∷ ls) w'
+  delivery_post : (m : Letter B) (w w' : World B) (ls : List (Letter B)) → WorldPost N Q m.poster m w w' → Delivery N ls w → Delivery N (m ∷ ls) w'
   delivery_post m w w' ls step ok k i t l ne = ⊎_elim (λ (e : k ≡ m). subst (OnWay w' t) (sym e) new) (λ (j : k ∈ ls). old (ok k j t l ne)) (in_cons i)
     where
       new : OnWay w' t m
@@ -101,7 +101,7 @@ module _ {B : Type 0} (N Q : ℕ) where
       moved_way was is s w w' step t m (λ j. in_eq (sym (same t)) j)
       (moved_unsent was is s w w' step t m (λ e. not_clear)) (ok m i t l ne)
 
-  delivery_send : (s : ℕ) (m : Letter B) (w w' : World B) (h : History (Letter B)) → Sends N Q s m w w' → Books N Q (clocks w) (logs_of w) h
+  delivery_send : (s : ℕ) (m : Letter B) (w w' : World B) (h : History (Letter B)) → WorldSend N Q s m w w' → Books N Q (clocks w) (logs_of w) h
       → Delivery N (posted_letters h) w → Delivery N (posted_letters h) w'
   delivery_send s m w w' h step books ok k i t l ne =
       moved_way Out Clear s w w' step.moves t k keep (λ d n. go d n (ℕ_discrete k.poster s)) (ok k i t l ne)
@@ -124,7 +124,7 @@ module _ {B : Type 0} (N Q : ℕ) where
           waiting_there (in_as same (gains_copy m (w.waiting t) (w'.waiting t) (step.put.others t l (λ q. ne (q ∙ sym e)))))
       go d n (no c) = moved_unsent Out Clear s w w' step.moves t k (λ e. absurd (c e)) d n
 
-  delivery_take : (s place : ℕ) (m : Letter B) (w w' : World B) (h : History (Letter B)) → Takes N Q s place m w w' → Books N Q (clocks w) (logs_of w) h
+  delivery_take : (s place : ℕ) (m : Letter B) (w w' : World B) (h : History (Letter B)) → WorldTake N Q s place m w w' → Books N Q (clocks w) (logs_of w) h
       → Holds (posted_letters h) w → Delivery N (posted_letters h) w → Delivery N (posted_letters h) w'
   delivery_take s place m w w' h step books holds ok k i t l ne = way w w' t k
       (same_part (λ (b : Box B). b.docket) s w w' step.elsewhere step.docket k.poster) (ap (λ (f : ℕ → ℕ). f k.poster) (same_clock k.poster))
@@ -162,7 +162,7 @@ module _ {B : Type 0} (N Q : ℕ) where
       drawn d (inl e) = result d e step.outcome
       drawn d (inr j) = waiting_there (in_eq (sym step.left) j)
 
-  delivery_show : (s : ℕ) (m : Letter B) (w w' : World B) (ls : List (Letter B)) → Shows N Q s m w w' → Delivery N ls w → Delivery N ls w'
+  delivery_show : (s : ℕ) (m : Letter B) (w w' : World B) (ls : List (Letter B)) → WorldShow N Q s m w w' → Delivery N ls w → Delivery N ls w'
   delivery_show s m w w' ls step ok k i t l ne = way w w' t k
       (same_part (λ (b : Box B). b.docket) s w w' step.elsewhere step.docket k.poster) (show_own N Q s m w w' step k.poster)
       (λ j. waiting_there (in_eq (sym (step.waiting t)) j))
@@ -176,11 +176,11 @@ module _ {B : Type 0} (N Q : ℕ) where
       found (inl e) = shown_there (subst (λ (x : Letter B). number_of x ≤ (w'.box s).clock x.poster) (sym e) (let a = step.own in omega arith))
       found (inr j) = in_hold (in_eq (sym step.hold) j)
 
-  step_delivers : (w w' : World B) (h : History (Letter B)) (new : List (Event (Letter B))) → Step N Q w w' new → Always N Q w h
+  step_delivers : (w w' : World B) (h : History (Letter B)) (new : List (Event (Letter B))) → WorldStep N Q w w' new → Always N Q w h
       → Delivery N (posted_letters h) w → Delivery N (posted_letters (new ++ h)) w'
   step_delivers w w' h new (refuses step) kept ok = delivery_same N w w' (posted_letters h) step.box step.waiting ok
   step_delivers w w' h new (posts {s = s} {m = m} step) kept ok =
-      delivery_post m w w' (posted_letters h) (subst (λ (t : ℕ). Posts N Q t m w w') (sym step.poster) step) ok
+      delivery_post m w w' (posted_letters h) (subst (λ (t : ℕ). WorldPost N Q t m w w') (sym step.poster) step) ok
   step_delivers w w' h new (sends {s = s} {m = m} step) kept ok = delivery_send s m w w' h step kept.books ok
   step_delivers w w' h new (parks {s = s} step) kept ok =
       delivery_moved Out Parked s w w' (posted_letters h) parked_not_clear step.moves step.waiting ok

@@ -5,10 +5,10 @@ use Rattle.letters.specs.declared.letter.Letter.{Letter}
 use Rattle.letters.specs.Letters.{number_of}
 use Rattle.letters.specs.Order.{SameLetter}
 use Rattle.letters.specs.Lists.{◌∈◌, there}
-use Rattle.letters.specs.Logs.{Once}
+use Rattle.letters.specs.Logs.{NoDuplicates}
 use Rattle.causality.specs.History.{History, posted_letters}
-use Rattle.causality.specs.Worlds.{Box, World, Opened}
-use Rattle.causality.specs.Steps.{Posts, Sends, Takes, Shows, Stray, no_seat, own, past_quota, no_place, Repeat, covered, among_held, Outcome, stray, repeat, held}
+use Rattle.causality.specs.Worlds.{Box, World, InitialWorld}
+use Rattle.causality.specs.WorldSteps.{WorldPost, WorldSend, WorldTake, WorldShow, Stray, no_seat, own, past_quota, no_place, Repeat, covered, among_held, Outcome, stray, repeat, held}
 use Rattle.causality.proofs.Lists.{in_eq, in_as, by_seat, in_none, in_middle, in_kept, in_last_cases, apart_cut, apart_last}
 use Rattle.causality.proofs.Counting.{fewer}
 use Rattle.causality.proofs.Puts.{gains_only}
@@ -25,11 +25,11 @@ module _ {B : Type 0} where
     pub known : (s : ℕ) (m : Letter B) → s < N → m ∈ w.waiting s → m ∈ ls
     pub other : (s : ℕ) (m : Letter B) → s < N → m ∈ w.waiting s → ¬ (m.poster ≡ s)
 
-  pub holds_opened : (w : World B) → Opened w → Holds [] w
+  pub holds_opened : (w : World B) → InitialWorld w → Holds [] w
   holds_opened w step s = subst (HoldOk [] (w.box s).clock) (sym (step.hold s))
       (record { known = λ m i. i; new = λ m i. absurd (in_none i); once = tt })
 
-  pub waits_opened : (N : ℕ) (w : World B) → Opened w → Waits N [] w
+  pub waits_opened : (N : ℕ) (w : World B) → InitialWorld w → Waits N [] w
   waits_opened N w step = record { known = λ s m l i. in_eq (step.waiting s) i; other = λ s m l i. absurd (in_none (in_eq (step.waiting s) i)) }
 
   -- a step after which nothing waits that did not before
@@ -69,7 +69,7 @@ module _ {B : Type 0} (N Q : ℕ) where
         let c = has_place (omega arith) in
         omega arith
 
-  pub holds_post : (m : Letter B) (w w' : World B) (h : History (Letter B)) → Posts N Q m.poster m w w'
+  pub holds_post : (m : Letter B) (w w' : World B) (h : History (Letter B)) → WorldPost N Q m.poster m w w'
       → Books N Q (clocks w) (logs_of w) h → Holds (posted_letters h) w → Holds (m ∷ posted_letters h) w'
   holds_post m w w' h step books ok = by_seat m.poster (λ s. HoldOk (m ∷ posted_letters h) (w'.box s).clock (w'.box s).hold)
       (subst (HoldOk (m ∷ posted_letters h) (w'.box m.poster).clock) (sym step.hold) (record {
@@ -92,7 +92,7 @@ module _ {B : Type 0} (N Q : ℕ) where
           let c = step.rest k.poster ne in
           omega arith
 
-  pub holds-take : (s place : ℕ) (m : Letter B) (w w' : World B) (ls : List (Letter B)) → Takes N Q s place m w w'
+  pub holds-take : (s place : ℕ) (m : Letter B) (w w' : World B) (ls : List (Letter B)) → WorldTake N Q s place m w w'
       → Waits N ls w → Holds ls w → Holds ls w'
   holds-take s place m w w' ls step waits ok = by_seat s (λ t. HoldOk ls (w'.box t).clock (w'.box t).hold)
       (go step.outcome)
@@ -117,7 +117,7 @@ module _ {B : Type 0} (N Q : ℕ) where
       go (held placed fresh is) = subst (HoldOk ls (w'.box s).clock) (sym is)
           (subst (λ (c : ℕ → ℕ). HoldOk ls c ((w.box s).hold ++ (m ∷ []))) (sym step.clock) (longer fresh))
 
-  pub holds_show : (s : ℕ) (m : Letter B) (w w' : World B) (ls : List (Letter B)) → Shows N Q s m w w' → Holds ls w → Holds ls w'
+  pub holds_show : (s : ℕ) (m : Letter B) (w w' : World B) (ls : List (Letter B)) → WorldShow N Q s m w w' → Holds ls w → Holds ls w'
   holds_show s m w w' ls step ok = by_seat s (λ t. HoldOk ls (w'.box t).clock (w'.box t).hold)
       (subst (HoldOk ls (w'.box s).clock) (sym step.hold) (record {
         known = λ k i. (ok s).known k (was k i);
@@ -129,8 +129,8 @@ module _ {B : Type 0} (N Q : ℕ) where
       was : (k : Letter B) → k ∈ (step.before ++ step.after) → k ∈ (w.box s).hold
       was k i = in_eq (sym step.found) (in_kept m step.before step.after i)
 
-      cut : Once (step.before ++ step.after) × ((k : Letter B) → k ∈ (step.before ++ step.after) → ¬ (SameLetter m k))
-      cut = apart_cut SameLetter same_turned m step.before step.after (subst Once step.found (ok s).once)
+      cut : NoDuplicates (step.before ++ step.after) × ((k : Letter B) → k ∈ (step.before ++ step.after) → ¬ (SameLetter m k))
+      cut = apart_cut SameLetter same_turned m step.before step.after (subst NoDuplicates step.found (ok s).once)
 
       new' : (k : Letter B) → k ∈ (step.before ++ step.after) → Dec (k.poster ≡ m.poster) → (w'.box s).clock k.poster < number_of k
       new' k i (yes e) =
@@ -143,7 +143,7 @@ module _ {B : Type 0} (N Q : ℕ) where
           omega arith
       new' k i (no ne) = let a = (ok s).new k (was k i) in let b = step.rest k.poster ne in omega arith
 
-  pub waits_send : (s : ℕ) (m : Letter B) (w w' : World B) (h : History (Letter B)) → Sends N Q s m w w'
+  pub waits_send : (s : ℕ) (m : Letter B) (w w' : World B) (h : History (Letter B)) → WorldSend N Q s m w w'
       → Books N Q (clocks w) (logs_of w) h → Waits N (posted_letters h) w → Waits N (posted_letters h) w'
   waits_send s m w w' h step books ok = record {
     known = λ t k l i. ⊎_elim (λ (e : (k ≡ m) × (¬ (t ≡ s))). in_as e.0 listed) (λ (j : k ∈ w.waiting t). ok.known t k l j) (was t k l i);
@@ -162,7 +162,7 @@ module _ {B : Type 0} (N Q : ℕ) where
           go (no ne) = ⊎_elim {C = ((k ≡ m) × (¬ (t ≡ s))) ⊎ (k ∈ w.waiting t)} (λ (e : k ≡ m). inl (e, ne)) (λ (j : k ∈ w.waiting t). inr j)
               (gains_only m (w.waiting t) (w'.waiting t) (step.put.others t l ne) k i)
 
-  pub waits_take : (s place : ℕ) (m : Letter B) (w w' : World B) (ls : List (Letter B)) → Takes N Q s place m w w' → Waits N ls w → Waits N ls w'
+  pub waits_take : (s place : ℕ) (m : Letter B) (w w' : World B) (ls : List (Letter B)) → WorldTake N Q s place m w w' → Waits N ls w → Waits N ls w'
   waits_take s place m w w' ls step = waits_same N w w' ls ls (λ k i. i) (λ t k. by_seat s (λ t. k ∈ w'.waiting t → k ∈ w.waiting t)
       (λ i. in_eq (sym step.drawn) (in_kept m step.before step.after (in_eq step.left i)))
       (λ t ne i. in_eq (step.others t ne) i) t)

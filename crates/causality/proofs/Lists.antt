@@ -1,7 +1,7 @@
 -- Where an element stands in a list, and lists whose elements are apart.
 use Rattle.std.proofs.Common.{◌≡◌, ℕ, suc, ◌⊎◌, List, [], ◌∷◌, ◌++◌, length, sym, refl, ap, subst, inl, inr, ⊎_elim}
 use native.Mathlib.Decide.{ℕ_discrete}
-use Rattle.letters.specs.Lists.{◌∈◌, here, there, Apart}
+use Rattle.letters.specs.Lists.{◌∈◌, here, there, NoPair}
 
 -- a statement holds at every seat, if it holds at seat s and at every other
 pub by_seat : (s : ℕ) (P : ℕ → Type 0) → P s → ((t : ℕ) → ¬ (t ≡ s) → P t) → (t : ℕ) → P t
@@ -91,25 +91,25 @@ module _ {A : Type 0} where
 
 -- Lists whose elements are apart.
 module _ {A : Type 0} (R : A → A → Type 0) where
-  pub apart_less : (x : A) (a b : List A) → Apart R (a ++ (x ∷ b)) → Apart R (a ++ b)
+  pub apart_less : (x : A) (a b : List A) → NoPair R (a ++ (x ∷ b)) → NoPair R (a ++ b)
   apart_less x [] b p = p.1
   apart_less x (z ∷ a) b p = (λ y j. p.0 y (in_kept x a b j), apart_less x a b p.1)
 
   -- any beginning of such a list
-  pub apart_front : (a b : List A) → Apart R (a ++ b) → Apart R a
+  pub apart_front : (a b : List A) → NoPair R (a ++ b) → NoPair R a
   apart_front [] b p = tt
   apart_front (z ∷ a) b p = (λ y j. p.0 y (in_left b j), apart_front a b p.1)
 
-  pub apart_above : (x : A) (a b : List A) → Apart R (a ++ (x ∷ b)) → (y : A) → y ∈ a → ¬ (R y x)
+  pub apart_above : (x : A) (a b : List A) → NoPair R (a ++ (x ∷ b)) → (y : A) → y ∈ a → ¬ (R y x)
   apart_above x (z ∷ a) b p y (here e) r = p.0 x (in_middle x a b) (subst (λ (u : A). R u x) e r)
   apart_above x (z ∷ a) b p y (there i) r = apart_above x a b p.1 y i r
   apart_above x [] b p y i r = in_none i
 
-  pub apart_below : (x : A) (a b : List A) → Apart R (a ++ (x ∷ b)) → (y : A) → y ∈ b → ¬ (R x y)
+  pub apart_below : (x : A) (a b : List A) → NoPair R (a ++ (x ∷ b)) → (y : A) → y ∈ b → ¬ (R x y)
   apart_below x [] b p y i = p.0 y i
   apart_below x (z ∷ a) b p y i = apart_below x a b p.1 y i
 
-  pub apart_last : (x : A) (l : List A) → Apart R l → ((y : A) → y ∈ l → ¬ (R y x)) → Apart R (l ++ (x ∷ []))
+  pub apart_last : (x : A) (l : List A) → NoPair R l → ((y : A) → y ∈ l → ¬ (R y x)) → NoPair R (l ++ (x ∷ []))
   apart_last x [] p new = (λ y i. absurd (in_none i), tt)
   apart_last x (z ∷ l) p new = (λ y i r. go y r (in_last_cases x l i), apart_last x l p.1 (λ y j. new y (there j)))
     where
@@ -118,7 +118,7 @@ module _ {A : Type 0} (R : A → A → Type 0) where
       go y r (inr e) = new z (here refl) (subst (λ (u : A). R z u) e r)
 
 module _ {A : Type 0} (R : A → A → Type 0) (turn : (x y : A) → R x y → R y x) where
-  pub apart_cut : (x : A) (a b : List A) → Apart R (a ++ (x ∷ b)) → Apart R (a ++ b) × ((y : A) → y ∈ (a ++ b) → ¬ (R x y))
+  pub apart_cut : (x : A) (a b : List A) → NoPair R (a ++ (x ∷ b)) → NoPair R (a ++ b) × ((y : A) → y ∈ (a ++ b) → ¬ (R x y))
   apart_cut x a b p = (
     apart_less R x a b p,
     λ y i r. ⊎_elim

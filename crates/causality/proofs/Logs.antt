@@ -2,11 +2,11 @@
 use Rattle.std.proofs.Common.{◌≡◌, ℕ, ◌<◌, ◌≤◌, ◌⊎◌, List, [], ◌∷◌, ◌++◌, sym, ◌∙◌, subst, inl, inr, ⊎_elim, arith}
 use Rattle.letters.specs.declared.letter.Letter.{Letter}
 use Rattle.letters.specs.Letters.{entry_at, number_of}
-use Rattle.letters.specs.Names.{name}
+use Rattle.letters.specs.Names.{name_from}
 use Rattle.letters.specs.Order.{SameLetter, CoversLetter}
 use Rattle.letters.specs.Lists.{◌∈◌, there}
-use Rattle.letters.specs.Logs.{Once}
-use Rattle.causality.specs.Logs.{Stands}
+use Rattle.letters.specs.Logs.{NoDuplicates}
+use Rattle.causality.specs.LetterLists.{HasLetter}
 use Rattle.causality.proofs.Lists.{in_eq, in_as, in_none, in_cons, in_left, in_middle, in_last_cases, split_last, apart_last}
 use Rattle.causality.proofs.Counting.{Numbered}
 
@@ -16,7 +16,7 @@ module _ {B : Type 0} where
     pub known : (m : Letter B) → m ∈ g → m ∈ ls
     pub below : (m : Letter B) → m ∈ g → (p : ℕ) → entry_at m.stamp p ≤ c p
     pub full : (m : Letter B) → m ∈ ls → number_of m ≤ c m.poster → m ∈ g
-    pub once : Once g
+    pub once : NoDuplicates g
     pub above : (a b : List (Letter B)) (m k : Letter B) → g ≡ a ++ (m ∷ b) → k ∈ ls → CoversLetter m k → (k ∈ a) ⊎ (k ≡ m)
 
   pub same_turned : (m k : Letter B) → SameLetter m k → SameLetter k m
@@ -102,11 +102,11 @@ module _ {B : Type 0} where
   pub record HoldOk (ls : List (Letter B)) (c : ℕ → ℕ) (d : List (Letter B)) : Type 0 where
     pub known : (m : Letter B) → m ∈ d → m ∈ ls
     pub new : (m : Letter B) → m ∈ d → c m.poster < number_of m
-    pub once : Once d
+    pub once : NoDuplicates d
 
   -- what holds of the posted letters, when `top` is each seat's own clock entry
   pub record IdsOk (N Q : ℕ) (ls : List (Letter B)) (top : ℕ → ℕ) : Type 0 where
     pub numbered : (m : Letter B) → m ∈ ls → Numbered N Q m
     pub high : (m : Letter B) → m ∈ ls → number_of m ≤ top m.poster
     pub unique : (m k : Letter B) → m ∈ ls → k ∈ ls → SameLetter m k → m ≡ k
-    pub listed : (p n : ℕ) → 1 ≤ n → n ≤ top p → Stands (name p n) ls
+    pub listed : (p n : ℕ) → 1 ≤ n → n ≤ top p → HasLetter (name_from p n) ls

@@ -10,7 +10,7 @@ use Rattle.causality.specs.declared.docket.DocketState.{DocketState}
 use Rattle.causality.specs.declared.docket.DocketState.TheVariants.{Clear, Out, Parked}
 use Rattle.letters.specs.Lists.{◌∈◌}
 use Rattle.causality.specs.Worlds.{Box, World}
-use Rattle.causality.specs.Steps.{MovesDocket, OfDocket, Outcome, Posts, Sends, Parks, Collects, Takes, Shows, Refuses}
+use Rattle.causality.specs.WorldSteps.{MovesDocket, OfDocket, Outcome, WorldPost, WorldSend, WorldPark, WorldCollect, WorldTake, WorldShow, WorldRefusal}
 
 module _ {X : Type 0} (f : ℕ → X) (s : ℕ) (x : X) where
   -- f, but for x at s
@@ -56,13 +56,13 @@ module _ {B : Type 0} (w : World B) (s : ℕ) where
   }
 
 module _ {B : Type 0} (N Q : ℕ) (w : World B) where
-  pub refused : Refuses w w
+  pub refused : WorldRefusal w w
   refused = record { box = λ t. refl; waiting = λ t. refl }
 
   module _ (s : ℕ) (seat : s < N) where
     pub posts_made : (m : Letter B) → (w.box s).clock s < Q → (w.box s).docket ≡ Clear → m.poster ≡ s
         → entry_at m.stamp s ≡ (w.box s).clock s + 1 → ((p : ℕ) → ¬ (p ≡ s) → entry_at m.stamp p ≡ (w.box s).clock p)
-        → Posts N Q s m w (with_box w s (posted_box w s m))
+        → WorldPost N Q s m w (with_box w s (posted_box w s m))
     posts_made m quota clear poster own rest = record {
       seat = seat;
       quota = quota;
@@ -89,14 +89,14 @@ module _ {B : Type 0} (N Q : ℕ) (w : World B) where
       elsewhere = at_other w.box s (with_docket w s is);
     }
 
-    pub parks_made : (w.box s).docket ≡ Out → Parks N Q s w (with_box w s (with_docket w s Parked))
+    pub parks_made : (w.box s).docket ≡ Out → WorldPark N Q s w (with_box w s (with_docket w s Parked))
     parks_made out = record { seat = seat; moves = moves_made Out Parked w.waiting out; waiting = λ t. refl }
 
-    pub collects_made : (w.box s).docket ≡ Parked → Collects N Q s w (with_box w s (with_docket w s Out))
+    pub collects_made : (w.box s).docket ≡ Parked → WorldCollect N Q s w (with_box w s (with_docket w s Out))
     collects_made parked = record { seat = seat; moves = moves_made Parked Out w.waiting parked; waiting = λ t. refl }
 
     pub sends_made : (m : Letter B) (n : ℕ) (above below : List (Letter B)) → (w.box s).log ≡ above ++ (m ∷ below) → OfDocket s w m
-        → ((k : Letter B) → k ∈ above → ¬ (OfDocket s w k)) → (w.box s).docket ≡ Out → Sends N Q s m w (sent w s m n)
+        → ((k : Letter B) → k ∈ above → ¬ (OfDocket s w k)) → (w.box s).docket ≡ Out → WorldSend N Q s m w (sent w s m n)
     sends_made m n above below found is first out = record {
       seat = seat;
       above = above;
@@ -115,7 +115,7 @@ module _ {B : Type 0} (N Q : ℕ) (w : World B) where
 
     -- what is taken is given at the seat's box as it is after, so that its kind stays in sight
     abbrev pub takes-made : (m : Letter B) (hold before after : List (Letter B)) → w.waiting s ≡ before ++ (m ∷ after)
-        → Outcome N Q s m (w.box s) (updated w.box s (taken_box w s hold) s) → Takes N Q s (length before) m w (taken w s hold (before ++ after))
+        → Outcome N Q s m (w.box s) (updated w.box s (taken_box w s hold) s) → WorldTake N Q s (length before) m w (taken w s hold (before ++ after))
     takes-made m hold before after drawn outcome = record {
       seat = seat;
       before = before;
@@ -132,7 +132,7 @@ module _ {B : Type 0} (N Q : ℕ) (w : World B) where
     }
 
     pub shows-made : (m : Letter B) (before after : List (Letter B)) → (w.box s).hold ≡ before ++ (m ∷ after) → Ready N Q s (w.box s).clock m
-        → ((k : Letter B) → k ∈ before → ¬ (Ready N Q s (w.box s).clock k)) → Shows N Q s m w (with_box w s (shown_box w s m (before ++ after)))
+        → ((k : Letter B) → k ∈ before → ¬ (Ready N Q s (w.box s).clock k)) → WorldShow N Q s m w (with_box w s (shown_box w s m (before ++ after)))
     shows-made m before after found ready first = record {
       seat = seat;
       before = before;

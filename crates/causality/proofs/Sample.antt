@@ -5,12 +5,12 @@ use Rattle.letters.specs.declared.letter.Letter.{Letter}
 use Rattle.letters.specs.declared.parts.Parts.{Parts}
 use Rattle.letters.specs.Letters.{entry_at, number_of, parts_of}
 use Rattle.letters.specs.Order.{Ready}
-use Rattle.letters.specs.Same.{same_letter}
+use Rattle.letters.specs.SameLemmas.{equal_letters}
 use Rattle.causality.specs.declared.docket.DocketState.TheVariants.{Clear, Out, Parked}
 use Rattle.letters.specs.Lists.{◌∈◌, here, there}
 use Rattle.causality.specs.History.{History, posted, shown, direct}
 use Rattle.causality.specs.Worlds.{Box, World}
-use Rattle.causality.specs.Steps.{OfDocket, Stray, no_seat, own, past_quota, no_place, Repeat, covered, among_held, held, repeat, refuses, posts, sends, parks, collects, takes, shows}
+use Rattle.causality.specs.WorldSteps.{OfDocket, Stray, no_seat, own, past_quota, no_place, Repeat, covered, among_held, held, repeat, refuses, posts, sends, parks, collects, takes, shows}
 use Rattle.causality.specs.Runs.{Run, opened, more}
 use Rattle.causality.specs.Sample.{Arrives, first_parts}
 use Rattle.causality.proofs.Lists.{in_eq, in_none}
@@ -22,7 +22,7 @@ zeros (suc n) zero = refl
 zeros (suc n) (suc p) = zeros n p
 
 module _ {B : Type 0} (body : B) where
-  -- 0.1, and the reply 1.1 that seat 1 posts when it has shown it
+  -- 0.1, and the answering letter 1.1 that seat 1 posts when it has shown it
   abbrev m : Letter B
   m = record { stamp = record { entries = 1 ∷ replicate 15 0 }; poster = 0; body = body; sized = refl; seated = omega arith; counted = omega arith }
 
@@ -143,7 +143,7 @@ module _ {B : Type 0} (body : B) where
       (collects (collects_made 3 1 w2 0 (omega arith) refl)))
       (sends (sends_made 3 1 w3 0 (omega arith) m 1 [] [] refl (record { poster = refl; number = refl }) (λ x i. absurd (in_none i)) refl))
 
-  -- seat 1 shows 0.1 and replies
+  -- seat 1 shows 0.1 and answers it
   abbrev to_9 : Run 3 1 w9 (posted 1 k ∷ (shown 1 m ∷ (posted 0 m ∷ [])))
   to_9 =
       more (more (more (more (more to_4
@@ -172,7 +172,7 @@ module _ {B : Type 0} (body : B) where
   abbrev past : History (Letter B)
   past = shown 0 k ∷ (shown 2 k ∷ (shown 2 m ∷ (posted 1 k ∷ (shown 1 m ∷ (posted 0 m ∷ [])))))
 
-  -- seat 2 gets the reply first, and seat 0 gets it last
+  -- seat 2 gets the answering letter first, and seat 0 gets it last
   abbrev to_16 : Run 3 1 w16 past
   to_16 =
       more (more (more (more (more (more (more (more to_9
@@ -220,7 +220,7 @@ module _ {B : Type 0} (body : B) where
     run = to_16;
     did = refl;
     led = direct (inl (refl, inl (refl, refl)));
-    settled = λ s l. record {
+    quiescent = λ s l. record {
       dockets = each (λ t. (w16.box t).docket ≡ Clear) refl refl refl;
       waits = each (λ t. w16.waiting t ≡ []) refl refl refl s l;
       held = λ x i r. in_none (in_eq (holds s l) i);
@@ -234,4 +234,4 @@ pub arrives : {B : Type 0} (x : Letter B) (body : B) → parts_of x ≡ first_pa
 arrives {B} x body e = subst Arrives (sym is) (m_arrives body)
   where
     is : x ≡ m body
-    is = same_letter x (m body) (ap (λ (y : Parts B). y.stamp) e) (ap (λ (y : Parts B). y.poster) e) (ap (λ (y : Parts B). y.body) e)
+    is = equal_letters x (m body) (ap (λ (y : Parts B). y.stamp) e) (ap (λ (y : Parts B). y.poster) e) (ap (λ (y : Parts B). y.body) e)

@@ -1,22 +1,22 @@
--- A seat that is settled has shown everything: by induction over the history, since what a letter covers was posted before it.
+-- A quiescent seat has shown everything: by induction over the history, since what a letter covers was posted before it.
 use Rattle.std.proofs.Common.{◌≡◌, ℕ, ◌+◌, ◌<◌, ◌≤◌, ◌⊎◌, [], ◌∷◌, sym, refl, ap, subst, inl, inr, arith}
 use native.Mathlib.Decide.{ℕ_discrete, dec_le}
 use Rattle.letters.specs.declared.letter.Letter.{Letter}
 use Rattle.letters.specs.Letters.{entry_at, number_of}
-use Rattle.letters.specs.Names.{Name, name}
+use Rattle.letters.specs.Names.{Name, name_from}
 use Rattle.letters.specs.Order.{Ready}
 use Rattle.letters.specs.Lists.{◌∈◌, here, there}
-use Rattle.causality.specs.Logs.{Stands}
+use Rattle.causality.specs.LetterLists.{HasLetter}
 use Rattle.causality.specs.History.{History, posted, shown, posted_letters}
 use Rattle.causality.specs.Worlds.{World}
-use Rattle.causality.specs.Theorems.{Settled, Complete}
+use Rattle.causality.specs.Theorems.{WorldQuiescent, WorldComplete}
 use Rattle.causality.proofs.Lists.{in_eq, in_none, in_cons, empty}
 use Rattle.causality.proofs.Books.{GroundedIn, Grounded}
 use Rattle.causality.proofs.Delivery.{Delivery, OnWay, unsent, waiting_there, in_hold, shown_there}
 use Rattle.causality.proofs.Always.{Always}
 
 module _ {B : Type 0} (N Q : ℕ) (w : World B) (h : History (Letter B)) (ok : Always N Q w h)
-    (delivered : Delivery N (posted_letters h) w) (s : ℕ) (seat : s < N) (settled : Settled N Q s w) where
+    (delivered : Delivery N (posted_letters h) w) (s : ℕ) (seat : s < N) (quiescent : WorldQuiescent N Q s w) where
   -- what is held is ready, once all that was posted before it is covered
   ready : (past : History (Letter B)) (m : Letter B) → m ∈ posted_letters h → m ∈ (w.box s).hold → ¬ (m.poster ≡ s) → GroundedIn (posted_letters past) m
       → ((k : Letter B) → k ∈ posted_letters past → number_of k ≤ (w.box s).clock k.poster) → Ready N Q s (w.box s).clock m
@@ -28,7 +28,7 @@ module _ {B : Type 0} (N Q : ℕ) (w : World B) (h : History (Letter B)) (ok : A
     known = λ p d. rest' p d (dec_le (entry_at m.stamp p) ((w.box s).clock p));
   }
     where
-      reached : (p n : ℕ) → Stands (name p n) (posted_letters past) → n ≤ (w.box s).clock p
+      reached : (p n : ℕ) → HasLetter (name_from p n) (posted_letters past) → n ≤ (w.box s).clock p
       reached p n r =
           let a = below r.letter r.inside in
           let b = ap (λ (x : Name). (w.box s).clock x.poster) r.called in
@@ -51,9 +51,9 @@ module _ {B : Type 0} (N Q : ℕ) (w : World B) (h : History (Letter B)) (ok : A
   shown_here past m i ground below = go (ℕ_discrete m.poster s)
     where
       arrived : ¬ (m.poster ≡ s) → OnWay w s m → number_of m ≤ (w.box s).clock m.poster
-      arrived ne (unsent d n) = absurd (d (settled.dockets m.poster (ok.books.ids.numbered m i).seat))
-      arrived ne (waiting_there j) = absurd (in_none (in_eq settled.waits j))
-      arrived ne (in_hold j) = absurd (settled.held m j (ready past m i j ne ground below))
+      arrived ne (unsent d n) = absurd (d (quiescent.dockets m.poster (ok.books.ids.numbered m i).seat))
+      arrived ne (waiting_there j) = absurd (in_none (in_eq quiescent.waits j))
+      arrived ne (in_hold j) = absurd (quiescent.held m j (ready past m i j ne ground below))
       arrived ne (shown_there l) = l
 
       go : Dec (m.poster ≡ s) → number_of m ≤ (w.box s).clock m.poster
@@ -70,7 +70,7 @@ module _ {B : Type 0} (N Q : ℕ) (w : World B) (h : History (Letter B)) (ok : A
       go below (inr j) = below m j
   all_shown (shown t k ∷ past) g part m i = all_shown past g part m i
 
-  pub complete : Complete h (w.box s)
+  pub complete : WorldComplete h (w.box s)
   complete = record {
     log = λ m. (λ i. (ok.books.logs s).known m i, λ i. (ok.books.logs s).full m i (all m i));
     hold = empty (w.box s).hold (λ m i. let a = (ok.holds s).new m i in let b = all m ((ok.holds s).known m i) in omega arith);

@@ -4,7 +4,7 @@ use Rattle.letters.specs.declared.letter.Letter.{Letter}
 use Rattle.letters.specs.Lists.{◌∈◌}
 use Rattle.causality.specs.History.{History, Seen}
 use Rattle.causality.specs.Worlds.{Box, World, Elsewhere}
-use Rattle.causality.specs.Steps.{Posts, Shows}
+use Rattle.causality.specs.WorldSteps.{WorldPost, WorldShow}
 use Rattle.causality.proofs.Lists.{by_seat, in_as, in_eq, in_last_cases, in_left, in_middle}
 
 module _ {B : Type 0} where
@@ -36,7 +36,7 @@ module _ {B : Type 0} (s : ℕ) (m : Letter B) (w w' : World B) (h : History (Le
       foot (inl i) = inr (had s k i)
       foot (inr e) = inl (refl, e)
 
-module _ {B : Type 0} (N Q : ℕ) (m : Letter B) (w w' : World B) (step : Posts N Q m.poster m w w') where
+module _ {B : Type 0} (N Q : ℕ) (m : Letter B) (w w' : World B) (step : WorldPost N Q m.poster m w w') where
   -- the other seats' clocks
   pub post_else : (t p : ℕ) → ¬ (t ≡ m.poster) → (w'.box t).clock p ≡ (w.box t).clock p
   post_else t p ne = ap (λ (b : Box B). b.clock p) (step.elsewhere t ne)
@@ -48,7 +48,7 @@ module _ {B : Type 0} (N Q : ℕ) (m : Letter B) (w w' : World B) (step : Posts 
       (λ p ne. let a = step.clock p in let b = step.rest p ne in omega arith))
       (λ t ne p. let e = post_else t p ne in omega arith)
 
-module _ {B : Type 0} (N Q s : ℕ) (m : Letter B) (w w' : World B) (step : Shows N Q s m w w') where
+module _ {B : Type 0} (N Q s : ℕ) (m : Letter B) (w w' : World B) (step : WorldShow N Q s m w w') where
   pub show_else : (t p : ℕ) → ¬ (t ≡ s) → (w'.box t).clock p ≡ (w.box t).clock p
   show_else t p ne = ap (λ (b : Box B). b.clock p) (step.elsewhere t ne)
 

@@ -2,15 +2,15 @@
 use Rattle.std.proofs.Common.{◌≡◌, ℕ, ◌≤◌, ◌⊎◌, ◌↔◌, List, [], ◌∷◌, ◌++◌, sym, refl, ap, ◌∙◌, subst, inl, inr, ⊎_elim, arith}
 use Rattle.letters.specs.declared.letter.Letter.{Letter}
 use Rattle.letters.specs.Letters.{entry_at, number_of, letter_name}
-use Rattle.letters.specs.Names.{Name, name}
+use Rattle.letters.specs.Names.{Name, name_from}
 use Rattle.letters.specs.Order.{Covers, CoversLetter, SameLetter}
 use Rattle.letters.specs.Lists.{◌∈◌, here, there}
-use Rattle.letters.specs.Logs.{Once, Ordered}
-use Rattle.causality.specs.Logs.{Stands}
-use Rattle.causality.specs.History.{History, posted_letters, Before, LedTo, direct, through, told}
+use Rattle.letters.specs.Logs.{CausallyOrdered, NoDuplicates}
+use Rattle.causality.specs.LetterLists.{HasLetter}
+use Rattle.causality.specs.History.{History, posted_letters, Before, LedTo, direct, through, map_letters}
 use Rattle.causality.specs.Worlds.{World}
 use Rattle.causality.proofs.Turns.{in_turn}
-use Rattle.causality.specs.Theorems.{InOrder, Genuine, AllGenuine, CausalOrder, CompleteDelivery, EnoughPlaces, OrderForSheets, StampsMeanLedTo}
+use Rattle.causality.specs.Theorems.{WorldInOrder, WorldGenuine, AllGenuine, CausalOrder, CompleteDelivery, EnoughPlaces, OrderForSheets, StampsMeanLedTo}
 use Rattle.causality.proofs.Lists.{in_eq, in_none, in_left, in_middle, apart_front}
 use Rattle.causality.proofs.Counting.{at_most}
 use Rattle.causality.proofs.Named.{first_known, led_from_names, led_named}
@@ -62,7 +62,7 @@ module _ {B : Type 0} (N Q : ℕ) (w : World B) (h : History (Letter B)) (ok : A
   unique m k i j e = books.ids.unique m k i j (record { poster = ap (λ (x : Name). x.poster) e; number = ap (λ (x : Name). x.number) e })
 
   pub led_by_names : (m k : Letter B) → m ∈ posted_letters h → k ∈ posted_letters h
-      → LedTo h m k ↔ LedTo (told letter_name h) (letter_name m) (letter_name k)
+      → LedTo h m k ↔ LedTo (map_letters letter_name h) (letter_name m) (letter_name k)
   led_by_names m k i j = (
     λ l. led_named letter_name h m k l,
     λ l.
@@ -73,12 +73,12 @@ module _ {B : Type 0} (N Q : ℕ) (w : World B) (h : History (Letter B)) (ok : A
   )
 
   -- a posted letter of this name
-  listed : (m : Letter B) → m ∈ posted_letters h → (p n : ℕ) → 1 ≤ n → Covers m p n → Stands (name p n) (posted_letters h)
+  listed : (m : Letter B) → m ∈ posted_letters h → (p n : ℕ) → 1 ≤ n → Covers m p n → HasLetter (name_from p n) (posted_letters h)
   listed m i p n low high =
       let a = stamped_within N Q w h books m i p in
       books.ids.listed p n low (omega arith)
 
-  pub in_order : (s : ℕ) → InOrder s h (w.box s).log
+  pub in_order : (s : ℕ) → WorldInOrder s h (w.box s).log
   in_order s = record {
     seen = λ m. (books.logged s m, books.seen s m);
     once = (books.logs s).once;
@@ -92,7 +92,7 @@ module _ {B : Type 0} (N Q : ℕ) (w : World B) (h : History (Letter B)) (ok : A
           ⊎_elim (λ (i : k ∈ a). i) (λ (q : k ≡ m). absurd (not_same k m p.1 (same_itself k m q)))
           ((books.logs s).above a b m k e p.0 (p.1.all k.poster))
 
-      by_name : (a b : List (Letter B)) (m : Letter B) (i : Name) → (w.box s).log ≡ a ++ (m ∷ b) → LedTo (told letter_name h) i (letter_name m) → Stands i a
+      by_name : (a b : List (Letter B)) (m : Letter B) (i : Name) → (w.box s).log ≡ a ++ (m ∷ b) → LedTo (map_letters letter_name h) i (letter_name m) → HasLetter i a
       by_name a b m i e l =
           let r = led_from_names letter_name h seen_posted unique i (letter_name m) l in
           let j = (books.logs s).known m (in_eq (sym e) (in_middle m a b)) in
@@ -104,7 +104,7 @@ module _ {B : Type 0} (N Q : ℕ) (w : World B) (h : History (Letter B)) (ok : A
           }
 
       covered' : (a b : List (Letter B)) (m : Letter B) (p n : ℕ) → (w.box s).log ≡ a ++ (m ∷ b) → 1 ≤ n → Covers m p n
-          → ¬ (letter_name m ≡ name p n) → Stands (name p n) a
+          → ¬ (letter_name m ≡ name_from p n) → HasLetter (name_from p n) a
       covered' a b m p n e low high other =
           let i = (books.logs s).known m (in_eq (sym e) (in_middle m a b)) in
           let r = listed m i p n low high in
@@ -120,7 +120,7 @@ module _ {B : Type 0} (N Q : ℕ) (w : World B) (h : History (Letter B)) (ok : A
             called = r.called;
           }
 
-  genuine : (m : Letter B) → m ∈ posted_letters h → Genuine N w h m
+  genuine : (m : Letter B) → m ∈ posted_letters h → WorldGenuine N w h m
   genuine m i = record {
     seat = (books.ids.numbered m i).seat;
     made = books.made m i;
@@ -138,8 +138,8 @@ module _ {B : Type 0} (N Q : ℕ) (w : World B) (h : History (Letter B)) (ok : A
 
 -- A log's letters cover no later one.
 module _ {B : Type 0} where
-  no_later : (l : List (Letter B)) → Once l
-      → ((a b : List (Letter B)) (m k : Letter B) → l ≡ a ++ (m ∷ b) → k ∈ l → CoversLetter m k → (k ∈ a) ⊎ (k ≡ m)) → Ordered l
+  no_later : (l : List (Letter B)) → NoDuplicates l
+      → ((a b : List (Letter B)) (m k : Letter B) → l ≡ a ++ (m ∷ b) → k ∈ l → CoversLetter m k → (k ∈ a) ⊎ (k ≡ m)) → CausallyOrdered l
   no_later [] once above = tt
   no_later (m ∷ l) once above = (
     λ k i c. first k i (above [] l m k refl (there i) c),
@@ -158,7 +158,7 @@ module _ {B : Type 0} where
       rest a x k i (inl (there j)) = inl j
       rest a x k i (inr e) = inr e
 
-  onward : (ls : List (Letter B)) (c : ℕ → ℕ) (l : List (Letter B)) → LogOk ls c l → Ordered l
+  onward : (ls : List (Letter B)) (c : ℕ → ℕ) (l : List (Letter B)) → LogOk ls c l → CausallyOrdered l
   onward ls c l ok = no_later l ok.once (λ a b m k e i cov. ok.above a b m k e (ok.known k i) cov)
 
 pub causal_order : {B : Type 0} → CausalOrder B
@@ -170,7 +170,7 @@ causal_order = record {
 }
 
 pub complete_delivery : {B : Type 0} → CompleteDelivery B
-complete_delivery N Q w h run s seat settled = complete N Q w h (always N Q w h run) (delivered N Q w h run) s seat settled
+complete_delivery N Q w h run s seat quiescent = complete N Q w h (always N Q w h run) (delivered N Q w h run) s seat quiescent
 
 pub enough_places : {B : Type 0} (N Q : ℕ) → EnoughPlaces B N Q
 enough_places N Q = record {
@@ -190,10 +190,10 @@ order_for_sheets = record {
       let log = books.logs s in
       let log' = books.logs t in
       record {
-        once = apart_front SameLetter a a' (subst Once e log.once);
-        once' = apart_front SameLetter b b' (subst Once f log'.once);
-        onward = apart_front CoversLetter a a' (subst Ordered e (onward (posted_letters h) (w.box s).clock (w.box s).log log));
-        onward' = apart_front CoversLetter b b' (subst Ordered f (onward (posted_letters h) (w.box t).clock (w.box t).log log'));
+        once = apart_front SameLetter a a' (subst NoDuplicates e log.once);
+        once' = apart_front SameLetter b b' (subst NoDuplicates f log'.once);
+        onward = apart_front CoversLetter a a' (subst CausallyOrdered e (onward (posted_letters h) (w.box s).clock (w.box s).log log));
+        onward' = apart_front CoversLetter b b' (subst CausallyOrdered f (onward (posted_letters h) (w.box t).clock (w.box t).log log'));
         equal = λ m k i j same. books.ids.unique m k (log.known m (in_eq (sym e) (in_left a' i))) (log'.known k (in_eq (sym f) (in_left b' j))) same;
       };
 }

@@ -3,9 +3,9 @@ use Rattle.std.proofs.Common.{◌≡◌, ℕ, cond, eqb, List, [], ◌∷◌, �
 use Rattle.std.proofs.lemmas.List.{map-append}
 use Rattle.std.proofs.lemmas.Bool.{cases_Bool, cases_eq, cond-true, cond-false, eq-eqb, ne_eqb}
 use Rattle.letters.specs.declared.letter.Letter.{Letter}
-use Rattle.causality.specs.History.{Event, History, posted, shown, seen_at, told}
+use Rattle.causality.specs.History.{Event, History, posted, shown, seen_at, map_letters}
 use Rattle.causality.specs.Runs.{Run, opened, more}
-use Rattle.causality.specs.Steps.{Step, refuses, posts, sends, parks, collects, takes, shows}
+use Rattle.causality.specs.WorldSteps.{WorldStep, refuses, posts, sends, parks, collects, takes, shows}
 use Rattle.causality.specs.Worlds.{Box, World, Elsewhere}
 use Rattle.causality.proofs.Steps.{same_part}
 
@@ -27,7 +27,7 @@ module _ {B : Type 0} (w w' : World B) (h : History (Letter B)) (had : (s : ℕ)
       (λ other. ap log (elsewhere s (λ e. other (sym e))) ∙ had s ∙ sym (cond-false _ _ _ (ne_eqb t s other)))
       (cases_eq t s)
 
-  moved : {N Q : ℕ} {new : List (Event (Letter B))} → Step N Q w w' new → (s : ℕ) → (w'.box s).log ≡ seen_at s (new ++ h)
+  moved : {N Q : ℕ} {new : List (Event (Letter B))} → WorldStep N Q w w' new → (s : ℕ) → (w'.box s).log ≡ seen_at s (new ++ h)
   moved (refuses x) s = ap log (x.box s) ∙ had s
   moved (posts {s = t} {m} x) s = grows t m x.elsewhere x.log s
   moved (sends {s = t} x) s = stays t x.moves.elsewhere x.moves.log s
@@ -41,7 +41,7 @@ in_turn (opened o) s = o.log s
 in_turn (more {w} {w'} {h} run step) s = moved w w' h (in_turn run) step s
 
 -- the same with what a function makes of the letters
-pub told_in_turn : {A L : Type 0} (f : A → L) (s : ℕ) (h : History A) → map f (seen_at s h) ≡ seen_at s (told f h)
+pub told_in_turn : {A L : Type 0} (f : A → L) (s : ℕ) (h : History A) → map f (seen_at s h) ≡ seen_at s (map_letters f h)
 told_in_turn f s [] = refl
 told_in_turn f s (posted t m ∷ h) = elim (cases_Bool (eqb t s)) [
   | inl here ↦ rw here (map-append f (seen_at s h) (m ∷ []) ∙ ap (λ l. l ++ (f m ∷ [])) (told_in_turn f s h))

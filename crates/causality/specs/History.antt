@@ -42,7 +42,7 @@ module _ {L : Type 0} where
     through : {m k m' : L} → LedTo h m k → LedTo h k m' → LedTo h m m'
 
 -- the same events, with what a function makes of each letter in its place
-abbrev pub told : {A L : Type 0} → (A → L) → History A → History L
-told f [] = []
-told f (posted s m ∷ h) = posted s (f m) ∷ told f h
-told f (shown s m ∷ h) = shown s (f m) ∷ told f h
+abbrev pub map_letters : {A L : Type 0} → (A → L) → History A → History L
+map_letters f [] = []
+map_letters f (posted s m ∷ h) = posted s (f m) ∷ map_letters f h
+map_letters f (shown s m ∷ h) = shown s (f m) ∷ map_letters f h

@@ -1,7 +1,7 @@
-pub mod Logs
+pub mod LetterLists
 pub mod History
 pub mod Worlds
-pub mod Steps
+pub mod WorldSteps
 pub mod Runs
 pub mod Theorems
 pub mod Sample

@@ -2,31 +2,31 @@
 use Rattle.std.specs.Prelude.{◌≡◌, ℕ, ◌*◌, ◌<◌, ◌≤◌, Bool, not, ◌&&◌, ◌↔◌, List, [], ◌∷◌, ◌++◌, length, Decides}
 use Rattle.letters.specs.declared.letter.Letter.{Letter}
 use Rattle.letters.specs.Letters.{letter_name, number_of}
-use Rattle.letters.specs.Names.{Name, name}
+use Rattle.letters.specs.Names.{Name, name_from}
 use Rattle.letters.specs.Order.{Covers, CoversLetter, Ready, SameLetter, covers, same_letter}
 use Rattle.causality.specs.declared.docket.DocketState.TheVariants.{Clear}
 use Rattle.letters.specs.Lists.{◌∈◌}
-use Rattle.letters.specs.Logs.{Once}
-use Rattle.causality.specs.Logs.{Stands, ForSheets}
-use Rattle.causality.specs.History.{History, posted, posted_letters, Seen, LedTo, seen_at, told}
+use Rattle.letters.specs.Logs.{NoDuplicates}
+use Rattle.causality.specs.LetterLists.{HasLetter, ForSheets}
+use Rattle.causality.specs.History.{History, posted, posted_letters, Seen, LedTo, seen_at, map_letters}
 use Rattle.causality.specs.Worlds.{Box, World}
-use Rattle.causality.specs.Steps.{Stray}
+use Rattle.causality.specs.WorldSteps.{Stray}
 use Rattle.causality.specs.Runs.{Run, AtAllTimes}
 
 module _ {B : Type 0} where
   -- The log of seat s: what was posted or shown there, no letter twice, and above each letter everything that led to it,
   -- also where names stand for the letters in the events, and everything that it covers but itself.
-  pub record InOrder (s : ℕ) (h : History (Letter B)) (log : List (Letter B)) : Type 0 where
+  pub record WorldInOrder (s : ℕ) (h : History (Letter B)) (log : List (Letter B)) : Type 0 where
     pub seen : (m : Letter B) → (m ∈ log) ↔ Seen s m h
-    pub once : Once log
+    pub once : NoDuplicates log
     pub led : (a b : List (Letter B)) (m k : Letter B) → log ≡ a ++ (m ∷ b) → LedTo h k m → k ∈ a
     pub led_by_name : (a b : List (Letter B)) (m : Letter B) (i : Name) → log ≡ a ++ (m ∷ b)
-        → LedTo (told letter_name h) i (letter_name m) → Stands i a
+        → LedTo (map_letters letter_name h) i (letter_name m) → HasLetter i a
     pub covered : (a b : List (Letter B)) (m : Letter B) (p n : ℕ) → log ≡ a ++ (m ∷ b) → 1 ≤ n → Covers m p n
-        → ¬ (letter_name m ≡ name p n) → Stands (name p n) a
+        → ¬ (letter_name m ≡ name_from p n) → HasLetter (name_from p n) a
 
   -- m is the very letter that its poster posted, in every part, and as such it stands in its poster's log
-  pub record Genuine (N : ℕ) (w : World B) (h : History (Letter B)) (m : Letter B) : Type 0 where
+  pub record WorldGenuine (N : ℕ) (w : World B) (h : History (Letter B)) (m : Letter B) : Type 0 where
     pub seat : m.poster < N
     pub made : posted m.poster m ∈ h
     pub stands : m ∈ (w.box m.poster).log
@@ -34,20 +34,20 @@ module _ {B : Type 0} where
   -- every letter in a log, in a hold or on the carrier is genuine, none waits for its own poster, and posts are at the
   -- poster's box
   pub record AllGenuine (N : ℕ) (w : World B) (h : History (Letter B)) : Type 0 where
-    pub log : (s : ℕ) (m : Letter B) → m ∈ (w.box s).log → Genuine N w h m
-    pub hold : (s : ℕ) (m : Letter B) → m ∈ (w.box s).hold → Genuine N w h m
-    pub waiting : (s : ℕ) (m : Letter B) → s < N → m ∈ w.waiting s → Genuine N w h m
+    pub log : (s : ℕ) (m : Letter B) → m ∈ (w.box s).log → WorldGenuine N w h m
+    pub hold : (s : ℕ) (m : Letter B) → m ∈ (w.box s).hold → WorldGenuine N w h m
+    pub waiting : (s : ℕ) (m : Letter B) → s < N → m ∈ w.waiting s → WorldGenuine N w h m
     pub other : (s : ℕ) (m : Letter B) → s < N → m ∈ w.waiting s → ¬ (m.poster ≡ s)
     pub posts : (s : ℕ) (m : Letter B) → posted s m ∈ h → m.poster ≡ s
 
   -- no docket is out or parked, nothing waits for seat s, and nothing held there is ready
-  pub record Settled (N Q s : ℕ) (w : World B) : Type 0 where
+  pub record WorldQuiescent (N Q s : ℕ) (w : World B) : Type 0 where
     pub dockets : (t : ℕ) → t < N → (w.box t).docket ≡ Clear
     pub waits : w.waiting s ≡ []
     pub held : (m : Letter B) → m ∈ (w.box s).hold → ¬ (Ready N Q s (w.box s).clock m)
 
   -- the log holds exactly the posted letters, and the hold is empty
-  pub record Complete (h : History (Letter B)) (b : Box B) : Type 0 where
+  pub record WorldComplete (h : History (Letter B)) (b : Box B) : Type 0 where
     pub log : (m : Letter B) → (m ∈ b.log) ↔ (m ∈ posted_letters h)
     pub hold : b.hold ≡ []
 
@@ -61,16 +61,16 @@ module _ {B : Type 0} where
 
 -- Every log is in order, and every letter is the one that was posted; by their names, the same letters led to one another.
 pub record CausalOrder (B : Type 0) : Type 0 where
-  pub in_order : AtAllTimes {B = B} (λ N Q w h. (s : ℕ) → InOrder s h (w.box s).log)
+  pub in_order : AtAllTimes {B = B} (λ N Q w h. (s : ℕ) → WorldInOrder s h (w.box s).log)
   -- a log is what was posted or shown there, in that order
   pub in_turn : AtAllTimes {B = B} (λ N Q w h. (s : ℕ) → (w.box s).log ≡ seen_at s h)
   pub by_name : AtAllTimes {B = B} (λ N Q w h. (m k : Letter B) → m ∈ posted_letters h → k ∈ posted_letters h
-      → LedTo h m k ↔ LedTo (told letter_name h) (letter_name m) (letter_name k))
+      → LedTo h m k ↔ LedTo (map_letters letter_name h) (letter_name m) (letter_name k))
   pub genuine : AtAllTimes {B = B} (λ N Q w h. AllGenuine N w h)
 
--- A seat that is settled is complete.
+-- A quiescent seat is complete.
 abbrev pub CompleteDelivery : Type 0 → Type 0
-CompleteDelivery B = AtAllTimes {B = B} (λ N Q w h. (s : ℕ) → s < N → Settled N Q s w → Complete h (w.box s))
+CompleteDelivery B = AtAllTimes {B = B} (λ N Q w h. (s : ℕ) → s < N → WorldQuiescent N Q s w → WorldComplete h (w.box s))
 
 -- A posted letter is stray at no other seat, since the hold always has a place for it; and no log outgrows its places.
 pub record EnoughPlaces (B : Type 0) (N Q : ℕ) : Type 0 where

@@ -19,7 +19,7 @@ pub record World (B : Type 0) : Type 0 where
 
 module _ {B : Type 0} where
   -- a room as it opens: nothing has happened, and nothing waits
-  pub record Opened (w : World B) : Type 0 where
+  pub record InitialWorld (w : World B) : Type 0 where
     pub clock : (s p : ℕ) → (w.box s).clock p ≡ 0
     pub log : (s : ℕ) → (w.box s).log ≡ []
     pub hold : (s : ℕ) → (w.box s).hold ≡ []

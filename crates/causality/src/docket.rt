@@ -1,4 +1,4 @@
-// Where a seat's docket is: the slip for its newest letter, until that is sent.
+// Where a seat's docket is: the claim on its newest letter, until that is sent.
 #[derive(Clone, Copy, PartialEq, Eq)]
 pub enum DocketState {
     // There is none: all that the seat posted is sent.

@@ -11,9 +11,9 @@ use Rattle.letters.specs.declared.letter.Letter.{Letter}
 use Rattle.letters.specs.declared.refusal.Refusal.{Refusal}
 use Rattle.letters.specs.declared.parts.Parts.{Parts}
 use Rattle.letters.specs.Letters.{parts_of}
-use Rattle.letters.specs.Refusals.{Reason, plain, told}
+use Rattle.letters.specs.Refusals.{Reason, as_answer, plain}
 use Rattle.carriers.specs.Putting.{Gains}
-use Rattle.carriers.specs.Meaning.{DrawLeaves, Empty, Lawful, Meaning, PutOn, put_answer, waits_at}
+use Rattle.carriers.specs.Meaning.{DrawLeaves, Empty, LawfulMeaning, Meaning, PutOn, put_answer, waits_at}
 use Rattle.carriers.proofs.Decisions.{put_ok}
 use Rattle.delivery.specs.Passing.{Passes, first_answer, parts_by, pass_answer}
 
@@ -67,12 +67,12 @@ no_yes : {w : Reason} → ◌≡◌ {A = Result (Unit {0}) Reason} (Err w) (Ok t
 no_yes e = let z : ◌≡◌ {A = ℕ} 0 1 = cc in omega arith
 
 -- what holds where an answer accepts, of an answer that accepts
-pub after_yes : (r : Result (Unit {0}) Refusal) (P : Type 0) → told (λ u. u) r ≡ Ok tt → OnOk r P → P
+pub after_yes : (r : Result (Unit {0}) Refusal) (P : Type 0) → as_answer (λ u. u) r ≡ Ok tt → OnOk r P → P
 after_yes (Ok u) P took p = p
 after_yes (Err why) P took p = absurd (no_yes took)
 
 -- and of its refusal there is nothing to show
-pub on_no : (r : Result (Unit {0}) Refusal) (P : Type 0) → told (λ u. u) r ≡ Ok tt → OnErr r P
+pub on_no : (r : Result (Unit {0}) Refusal) (P : Type 0) → as_answer (λ u. u) r ≡ Ok tt → OnErr r P
 on_no (Ok u) P took = tt
 on_no (Err why) P took = absurd (no_yes took)
 
@@ -82,17 +82,17 @@ first_ok seats p seat h here other = rw (lt-ltb p seats h, lt-ltb seat seats her
 
 module _ {B C : Type 0} (meaning : C → Meaning (Letter B)) (puts : C → Letter B → C → Type 0) (c : C) (x : Letter B) (seat : ℕ) (lent filled : Parts B) (after : C) where
   -- after one put, a draw that was accepted
-  pub passed : (mid : C) (r : Result (Unit {0}) Refusal) → told (λ u. u) r ≡ Ok tt → puts c x mid → PutOn (meaning c) x.poster x (meaning mid)
+  pub passed : (mid : C) (r : Result (Unit {0}) Refusal) → as_answer (λ u. u) r ≡ Ok tt → puts c x mid → PutOn (meaning c) x.poster x (meaning mid)
       → DrawLeaves parts_of r (meaning mid) seat 0 (meaning after) lent filled → Passes meaning puts r c x seat lent after filled
   passed mid (Ok u) took once put left = (mid, once, put, left.0, left.1)
   passed mid (Err why) took once put left = absurd (no_yes took)
 
-  nothing_filled : (r : Result (Unit {0}) Refusal) (why : Reason) → told (λ u. u) r ≡ Err why → Passes meaning puts r c x seat lent after filled → filled ≡ lent
+  nothing_filled : (r : Result (Unit {0}) Refusal) (why : Reason) → as_answer (λ u. u) r ≡ Err why → Passes meaning puts r c x seat lent after filled → filled ≡ lent
   nothing_filled (Ok u) why refused passes = absurd (no_yes (sym refused))
   nothing_filled (Err w) why refused passes = passes.1
 
   -- where nothing waited before, the letter is drawn by every other seat
-  own_filled : (r : Result (Unit {0}) Refusal) → told (λ u. u) r ≡ Ok tt → Empty (meaning c) → seat < (meaning c).seats → ¬ (seat ≡ x.poster)
+  own_filled : (r : Result (Unit {0}) Refusal) → as_answer (λ u. u) r ≡ Ok tt → Empty (meaning c) → seat < (meaning c).seats → ¬ (seat ≡ x.poster)
       → Passes meaning puts r c x seat lent after filled → filled ≡ parts_of x
   own_filled (Ok u) took none h other (mid, once, put, drawn, fill) =
       let gains : Gains x [] ((meaning mid).waiting seat) = subst (λ l. Gains x l ((meaning mid).waiting seat)) (none seat) (put.lists.others seat h other) in
@@ -101,7 +101,7 @@ module _ {B C : Type 0} (meaning : C → Meaning (Letter B)) (puts : C → Lette
   own_filled (Err why) took none h other passes = absurd (no_yes took)
 
 -- on a carrier with nothing waiting, a letter that is put is the first that another seat draws
-module _ {B C : Type 0} (meaning : C → Meaning (Letter B)) (puts : C → Letter B → C → Type 0) (c : C) (law : Lawful (meaning c)) (none : Empty (meaning c))
+module _ {B C : Type 0} (meaning : C → Meaning (Letter B)) (puts : C → Letter B → C → Type 0) (c : C) (law : LawfulMeaning (meaning c)) (none : Empty (meaning c))
     (x : Letter B) (seat : ℕ) (lent filled : Parts B) (r : Result (Unit {0}) Refusal) (after : C) where
   abbrev m : Meaning (Letter B)
   m = meaning c
@@ -110,10 +110,10 @@ module _ {B C : Type 0} (meaning : C → Meaning (Letter B)) (puts : C → Lette
   p = x.poster
 
   abbrev EndsBy : Result (Unit {0}) Reason → Type 0
-  EndsBy d = (told (λ u. u) r ≡ d) × (filled ≡ parts_by d (parts_of x) lent)
+  EndsBy d = (as_answer (λ u. u) r ≡ d) × (filled ≡ parts_by d (parts_of x) lent)
 
   abbrev Left : Type 0
-  Left = (told (λ u. u) r ≡ pass_answer m p seat) × Passes meaning puts r c x seat lent after filled
+  Left = (as_answer (λ u. u) r ≡ pass_answer m p seat) × Passes meaning puts r c x seat lent after filled
 
   ends_refused : (why : Reason) → Left → pass_answer m p seat ≡ Err why → first_answer m.seats p seat ≡ Err why → EndsBy (first_answer m.seats p seat)
   ends_refused why left pass first =

@@ -5,7 +5,7 @@ ghost use Rattle.std.specs.Prelude.{◌≡◌, OnOk, length, replicate};
 ghost use Rattle.carriers.specs.Lines.{put_places};
 ghost use Rattle.std.specs.Result.{OnErr};
 ghost use Rattle.letters.specs.Letters.{parts_of};
-ghost use Rattle.letters.specs.Refusals.{told};
+ghost use Rattle.letters.specs.Refusals.{as_answer};
 ghost use Rattle.delivery.specs.Passing.{Passes, delivery_answer, parts_by, pass_answer};
 
 use carriers::carrier::Carrier;
@@ -23,7 +23,7 @@ pub fn put_and_draw<C: Carrier>(
     seat: u8,
     parts: &mut Parts<C::Body>,
 ) -> Result<(), Refusal>
-    ensures answer { told (λ u. u) result ≡ pass_answer (C.meaning carrier.old) letter.now.poster seat }
+    ensures answer { as_answer (λ u. u) result ≡ pass_answer (C.meaning carrier.old) letter.now.poster seat }
     ensures passes { Passes C.meaning C.puts result carrier.old letter.now seat parts.old carrier.new parts.new }
 {
     let poster = letter.poster();
@@ -53,7 +53,7 @@ pub fn over_lines<B: Body>(
     seat: u8,
     parts: &mut Parts<B>,
 ) -> Result<(), Refusal>
-    ensures answer { told (λ u. u) result ≡ delivery_answer seats size (length places.old) letter.now.poster seat }
+    ensures answer { as_answer (λ u. u) result ≡ delivery_answer seats size (length places.old) letter.now.poster seat }
     ensures filled { parts.new ≡ parts_by (delivery_answer seats size (length places.old) letter.now.poster seat) (parts_of letter.now) parts.old }
     ensures kept { OnErr result (places.new ≡ places.old) }
     ensures table { OnOk result (places.new ≡ put_places size (replicate 16 0) letter.now.poster letter.now places.old seats) }

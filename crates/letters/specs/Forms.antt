@@ -35,7 +35,7 @@ pub record FirstWrong {B : Type 0} (form : Form B) (kind n : ℕ) (bs : List ℕ
       → ¬ ((k : ℕ) → k < n → form.starts kind n k ≤ place → slice_index (form.bytes b) k ≡ slice_index bs k)
 
 -- the round trip, and that every body has place in a record
-pub record Lawful {B : Type 0} (form : Form B) : Type 0 where
+pub record LawfulForm {B : Type 0} (form : Form B) : Type 0 where
   -- reading undoes writing
   pub back : (b : B) → form.body (form.kind b) (form.bytes b) ≡ b
   -- a body's own kind, length and bytes are right

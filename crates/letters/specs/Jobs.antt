@@ -5,7 +5,7 @@ use Rattle.letters.specs.declared.job.Job.{Job}
 use Rattle.letters.specs.declared.job.Job.TheVariants.{Add, Strike}
 use Rattle.letters.specs.Checks.{check}
 use Rattle.letters.specs.Forms.{Form}
-use Rattle.letters.specs.Names.{Name, is_name, name, name_of}
+use Rattle.letters.specs.Names.{Name, is_name, name_from, name_of}
 use Rattle.letters.specs.Numbers.{bytes_of_16, bytes_of_32, number_16, number_32}
 use Rattle.letters.specs.Refusals.{Reason, unless}
 
@@ -59,15 +59,15 @@ job_form = record {
 }
 
 -- what a caller sees of a job: the code of an addition, or the name of the letter that is struck
-pub data Said : Type 0 where
-  adds : ℕ → Said
-  strikes : Name → Said
+pub data JobContent : Type 0 where
+  adds : ℕ → JobContent
+  strikes : Name → JobContent
 
 -- the values of each case of a job
-abbrev pub said : Job → Said
-said (Add code) = adds code
-said (Strike id) = strikes (name_of id)
+abbrev pub content_of_job : Job → JobContent
+content_of_job (Add code) = adds code
+content_of_job (Strike id) = strikes (name_of id)
 
 -- a strike is made of any poster and number that a letter can be called by
-abbrev pub strike_answer : ℕ → ℕ → Result Said Reason
-strike_answer p n = unless (is_name p n) 20 (Ok (strikes (name p n)))
+abbrev pub strike_answer : ℕ → ℕ → Result JobContent Reason
+strike_answer p n = unless (is_name p n) 20 (Ok (strikes (name_from p n)))

@@ -6,19 +6,19 @@ use Rattle.letters.specs.declared.job.Job.{Job}
 use Rattle.letters.specs.declared.job.Job.TheVariants.{Add, Strike}
 use Rattle.letters.specs.declared.letter_id.LetterId.{LetterId}
 use Rattle.letters.specs.declared.body.TheConstants.{BODY_SPACE}
-use Rattle.letters.specs.Forms.{FirstWrong, Lawful, Near}
+use Rattle.letters.specs.Forms.{FirstWrong, LawfulForm, Near}
 use Rattle.letters.specs.Jobs.{add_wrong, job_bytes, job_form, job_of, job_starts, job_wrong, strike_of, strike_or_none, strike_wrong}
 use Rattle.letters.specs.Names.{is_name}
 use Rattle.letters.specs.Numbers.{bytes_of_16, bytes_of_32, number_16, number_32}
 use Rattle.letters.specs.ChecksLemmas.{failed, near_check, near_cond, passed, some_none}
-use Rattle.letters.specs.Listed.{listed}
+use Rattle.letters.specs.ListedLemmas.{written_out}
 use Rattle.letters.specs.NumbersLemmas.{bytes_of_16_back, bytes_of_32_back, made_up_16, made_up_32}
-use Rattle.letters.specs.Same.{same_id}
+use Rattle.letters.specs.SameLemmas.{equal_ids}
 
 strike_made : (p n : ℕ) (can : Bool) (e : is_name p n ≡ can) → can ≡ true
     → (id : LetterId) → id.poster ≡ p → id.number ≡ n → strike_or_none p n can e ≡ Strike id
 unfolding strike_or_none
-strike_made p n true e f id q m = ap Strike (same_id _ id (sym q) (sym m))
+strike_made p n true e f id q m = ap Strike (equal_ids _ id (sym q) (sym m))
 strike_made p n false e f id q m = absurd (true≢false (sym f))
 
 strike_back : (id : LetterId) → strike_of id.poster (id.number % 256 + id.number / 256 * 256) ≡ Strike id
@@ -68,7 +68,7 @@ pub add_listed : (bs : List ℕ) (code : ℕ) → ((i : ℕ) → slice_index bs 
     → 1 ∷ bytes_of_32 code ≡ bs
 add_listed bs code small five first is =
     let back = bytes_of_32_back (slice_index bs 1) (slice_index bs 2) (slice_index bs 3) (slice_index bs 4) (small 1) (small 2) (small 3) in
-    let all = listed 5 bs five in cc
+    let all = written_out 5 bs five in cc
 
 -- four bytes, of which the first is 2, are a strike's
 pub strike_listed : (bs : List ℕ) (poster number : ℕ) → ((i : ℕ) → slice_index bs i < 256) → length bs ≡ 4 → slice_index bs 0 ≡ 2
@@ -76,7 +76,7 @@ pub strike_listed : (bs : List ℕ) (poster number : ℕ) → ((i : ℕ) → sli
     → 2 ∷ poster ∷ bytes_of_16 number ≡ bs
 strike_listed bs poster number small four first from is =
     let back = bytes_of_16_back (slice_index bs 2) (slice_index bs 3) (small 2) in
-    let all = listed 4 bs four in cc
+    let all = written_out 4 bs four in cc
 
 -- the first letter of a seat
 abbrev struck_one : (p : ℕ) → nat_lt p 16 ≡ true → LetterId
@@ -221,7 +221,7 @@ job_bytes_known k bs small e l right = ⊎_elim
     (Add (number_32 1 bs), sym (eqb-true k 2 e), add_listed bs (number_32 1 bs) small five (eqb-true _ 1 one.0) refl))
     (or_cases (length bs == 4) (length bs == 5) l)
 
-pub job_lawful : Lawful job_form
+pub job_lawful : LawfulForm job_form
 job_lawful = record {
   back = job_back;
   kind_right = λ b. refl;

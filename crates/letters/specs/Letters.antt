@@ -4,7 +4,7 @@ use Rattle.std.proofs.lemmas.Bool.{ltb-true}
 use Rattle.letters.specs.declared.letter.Letter.{Letter}
 use Rattle.letters.specs.declared.parts.Parts.{Parts}
 use Rattle.letters.specs.declared.stamp.Stamp.{Stamp}
-use Rattle.letters.specs.Names.{Name, is_name, name}
+use Rattle.letters.specs.Names.{Name, is_name, name_from}
 use Rattle.letters.specs.Refusals.{Reason, unless}
 
 -- a stamp's entry at a seat, and 0 past the sixteen
@@ -23,7 +23,7 @@ module _ {B : Type 0} where
   number_of m = entry_at m.stamp m.poster
 
   abbrev pub letter_name : Letter B → Name
-  letter_name m = name m.poster (number_of m)
+  letter_name m = name_from m.poster (number_of m)
 
   -- some letter can have these parts, of a stamp with sixteen entries: the stamp's entry at the poster makes a name
   abbrev pub is_letter : Parts B → Bool

@@ -12,7 +12,7 @@ pub mod Lists
 pub mod Logs
 pub mod JobsLemmas
 pub mod ChecksLemmas
-pub mod Listed
+pub mod ListedLemmas
 pub mod NumbersLemmas
-pub mod Same
+pub mod SameLemmas
 pub mod TextsLemmas

@@ -8,9 +8,9 @@ pub data ◌∈◌ {A : Type 0} (x : A) : List A → Type 0 where
   there : {y : A} {l : List A} → x ∈ l → x ∈ (y ∷ l)
 
 -- no element of the list is related to a later one
-abbrev pub Apart : {A : Type 0} → (A → A → Type 0) → List A → Type 0
-Apart R [] = Unit {0}
-Apart {A} R (x ∷ l) = ((y : A) → y ∈ l → ¬ (R x y)) × Apart R l
+abbrev pub NoPair : {A : Type 0} → (A → A → Type 0) → List A → Type 0
+NoPair R [] = Unit {0}
+NoPair {A} R (x ∷ l) = ((y : A) → y ∈ l → ¬ (R x y)) × NoPair R l
 
 -- the same elements stand in both lists
 abbrev pub SameElements : {A : Type 0} → List A → List A → Type 0

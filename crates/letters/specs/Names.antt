@@ -8,11 +8,11 @@ pub record Name : Type 0 where
   pub poster : ℕ
   pub number : ℕ
 
-abbrev pub name : ℕ → ℕ → Name
-name p n = record { poster = p; number = n }
+abbrev pub name_from : ℕ → ℕ → Name
+name_from p n = record { poster = p; number = n }
 
 abbrev pub name_of : LetterId → Name
-name_of id = name id.poster id.number
+name_of id = name_from id.poster id.number
 
 -- a name in print
 abbrev pub name_text : ℕ → ℕ → List ℕ
@@ -24,4 +24,4 @@ is_name p n = nat_lt p 16 && nat_lt 0 n
 
 -- a name is made of any poster and number that a letter can be called by
 abbrev pub name_answer : ℕ → ℕ → Result Name Reason
-name_answer p n = unless (is_name p n) 20 (Ok (name p n))
+name_answer p n = unless (is_name p n) 20 (Ok (name_from p n))

@@ -15,19 +15,19 @@ abbrev pub text_bytes : Text → List ℕ
 text_bytes t = take t.len t.chars
 
 -- a check that finds nothing wrong was passed
-passed : (test : Bool) (place : ℕ) (later : Option ℕ) → is_some (check test place later) ≡ false → test ≡ true
-passed true place later e = refl
-passed false place later e = absurd (true≢false e)
+passing_check : (test : Bool) (place : ℕ) (later : Option ℕ) → is_some (check test place later) ≡ false → test ≡ true
+passing_check true place later e = refl
+passing_check false place later e = absurd (true≢false e)
 
 module _ (bs : List ℕ) (clean : is_some (text_wrong bs) ≡ false) where
   pub short : length bs ≤ LONGEST_TEXT
-  short = leb-true (length bs) LONGEST_TEXT (passed (nat_le (length bs) LONGEST_TEXT) LONGEST_TEXT _ clean)
+  short = leb-true (length bs) LONGEST_TEXT (passing_check (nat_le (length bs) LONGEST_TEXT) LONGEST_TEXT _ clean)
 
   pub front : take (length bs) (padded LONGEST_TEXT bs) ≡ bs
   front = take_at bs (replicate (LONGEST_TEXT - length bs) 0) (length bs) refl
 
-  pub long : length (padded LONGEST_TEXT bs) ≡ LONGEST_TEXT
-  long =
+  pub padded_length : length (padded LONGEST_TEXT bs) ≡ LONGEST_TEXT
+  padded_length =
       let parts = length-append bs (replicate (LONGEST_TEXT - length bs) 0) in
       let zeros = length-replicate {A = ℕ} (LONGEST_TEXT - length bs) 0 in
       omega (arith, short)
@@ -37,7 +37,7 @@ module _ (bs : List ℕ) (clean : is_some (text_wrong bs) ≡ false) where
   text_made = record {
     chars = padded LONGEST_TEXT bs;
     len = length bs;
-    sized = long;
+    sized = padded_length;
     short = short;
     clean = ap (λ l. is_some (text_wrong l)) front ∙ clean;
     blank = drop_at bs (replicate (LONGEST_TEXT - length bs) 0) (length bs) refl;

@@ -7,24 +7,24 @@ use Rattle.letters.specs.declared.text.Text.{Text}
 use Rattle.letters.specs.declared.text.TheConstants.{LONGEST_TEXT}
 use Rattle.letters.specs.Characters.{printable, text_wrong}
 use Rattle.letters.specs.Checks.{check, first_failing}
-use Rattle.letters.specs.Forms.{FirstWrong, Lawful}
+use Rattle.letters.specs.Forms.{FirstWrong, LawfulForm}
 use Rattle.letters.specs.Numbers.{padded}
 use Rattle.letters.specs.Texts.{front, text_bytes, text_form, text_made, text_of, text_or_none}
 use Rattle.letters.specs.ChecksLemmas.{each_passes, fails_at, near_check, near_failing, passed}
-use Rattle.letters.specs.Same.{same_text}
+use Rattle.letters.specs.SameLemmas.{equal_texts}
 
 none_found : (o : Option ℕ) → is_some o ≡ false → o ≡ None
 none_found None e = refl
 none_found (Some place) e = absurd (true≢false e)
 
-long : (t : Text) → length (text_bytes t) ≡ t.len
-long t = length-take-le t.len t.chars (omega (arith, t.short, t.sized))
+length_of_text : (t : Text) → length (text_bytes t) ≡ t.len
+length_of_text t = length-take-le t.len t.chars (omega (arith, t.short, t.sized))
 
 -- the characters are the text's bytes with zeros after them
 pub text_padded : (t : Text) → t.chars ≡ padded LONGEST_TEXT (text_bytes t)
 text_padded t =
     sym (take-append-drop t.len t.chars) ∙ ap (λ l. text_bytes t ++ l) t.blank
-    ∙ ap (λ n. text_bytes t ++ replicate (LONGEST_TEXT - n) 0) (sym (long t))
+    ∙ ap (λ n. text_bytes t ++ replicate (LONGEST_TEXT - n) 0) (sym (length_of_text t))
 
 -- the text of bytes in which nothing is wrong has these bytes
 made_chars : (bs : List ℕ) (spoilt : Bool) (e : is_some (text_wrong bs) ≡ spoilt) → spoilt ≡ false
@@ -37,7 +37,7 @@ text_back : (t : Text) → text_of (text_bytes t) ≡ t
 unfolding text_of
 text_back t =
     let made = made_chars (text_bytes t) (is_some (text_wrong (text_bytes t))) refl t.clean in
-    same_text (text_of (text_bytes t)) t (made.0 ∙ sym (text_padded t)) (made.1 ∙ long t)
+    equal_texts (text_of (text_bytes t)) t (made.0 ∙ sym (text_padded t)) (made.1 ∙ length_of_text t)
 
 spaces_clean : (place n : ℕ) → is_some (first_failing printable place (replicate n 32)) ≡ false
 spaces_clean place zero = refl
@@ -53,7 +53,7 @@ unfolding text_of
 text_length_known k n e l =
     let bs : List ℕ = replicate n 32 in
     let made = made_chars bs (is_some (text_wrong bs)) refl (spaces_right n (leb-true n LONGEST_TEXT l)) in
-    (text_of bs, sym (eqb-true k 1 e), long (text_of bs) ∙ made.1 ∙ length-replicate {A = ℕ} n 32)
+    (text_of bs, sym (eqb-true k 1 e), length_of_text (text_of bs) ∙ made.1 ∙ length-replicate {A = ℕ} n 32)
 
 -- the text of bytes in which nothing is wrong has these bytes
 text_has : (bs : List ℕ) → is_some (text_wrong bs) ≡ false → text_bytes (text_of bs) ≡ bs
@@ -119,11 +119,11 @@ text_first_wrong k bs place e l wrong =
           true≢false (sym each ∙ ap printable same ∙ ap (λ j. printable (slice_index bs j)) at ∙ fails.fails);
     }
 
-pub text_lawful : Lawful text_form
+pub text_lawful : LawfulForm text_form
 text_lawful = record {
   back = text_back;
   kind_right = λ t. refl;
-  length_right = λ t. le-leb (length (text_bytes t)) LONGEST_TEXT (omega (arith, long t, t.short));
+  length_right = λ t. le-leb (length (text_bytes t)) LONGEST_TEXT (omega (arith, length_of_text t, t.short));
   right = λ t. none_found (text_wrong (text_bytes t)) t.clean;
   kind_known = λ k e. (text_of [], sym (eqb-true k 1 e));
   length_known = text_length_known;

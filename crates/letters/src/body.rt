@@ -1,6 +1,6 @@
 // What a letter can carry.
 ghost use Rattle.std.specs.Prelude.{◌≡◌, true, length, take, None};
-ghost use Rattle.letters.specs.Forms.{Form, Lawful};
+ghost use Rattle.letters.specs.Forms.{Form, LawfulForm};
 ghost use Rattle.letters.specs.Numbers.{padded};
 
 // How many bytes a record has for its body.
@@ -59,5 +59,5 @@ pub trait Body: Copy {
     fn make_blank() -> Self
         ensures { result ≡ blank };
 
-    ghost lawful: { Lawful form };
+    ghost lawful: { LawfulForm form };
 }

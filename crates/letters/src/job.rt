@@ -1,9 +1,9 @@
 // Jobs as bodies of letters.
 ghost use Rattle.std.specs.Prelude.{◌≡◌, ◌∷◌, length, None};
 ghost use Rattle.letters.specs.declared.job.Job.TheVariants.{Add};
-ghost use Rattle.letters.specs.Jobs.{add_wrong, job_bytes, job_form, said, strike_answer, strike_wrong};
+ghost use Rattle.letters.specs.Jobs.{add_wrong, content_of_job, job_bytes, job_form, strike_answer, strike_wrong};
 ghost use Rattle.letters.specs.Numbers.{bytes_of_16, padded};
-ghost use Rattle.letters.specs.Refusals.{told};
+ghost use Rattle.letters.specs.Refusals.{as_answer};
 ghost use Rattle.letters.specs.JobsLemmas.{job_lawful};
 
 use crate::body::{BODY_SPACE, Body, padded};
@@ -22,7 +22,7 @@ pub enum Job {
 impl Job {
     // The strike of the letter of this poster and number; 20 where the poster is no seat or the number is 0.
     pub fn strike(poster: u8, number: u16) -> Result<Job, Refusal>
-        ensures { told said result ≡ strike_answer poster number }
+        ensures { as_answer content_of_job result ≡ strike_answer poster number }
     {
         let id = LetterId::new(poster, number)?;
         Ok(Job::Strike(id))

@@ -1,7 +1,7 @@
 // What a letter is made of.
 ghost use Rattle.std.specs.Prelude.{◌≡◌};
 ghost use Rattle.letters.specs.Letters.{letter_check};
-ghost use Rattle.letters.specs.Refusals.{told};
+ghost use Rattle.letters.specs.Refusals.{as_answer};
 
 use crate::refusal::Refusal;
 use crate::stamp::Stamp;
@@ -17,7 +17,7 @@ pub struct Parts<B> {
 impl<B: Copy> Parts<B> {
     // Whether a letter can have these parts; 20 where the poster is no seat or its entry is 0.
     pub fn check(&self) -> Result<(), Refusal>
-        ensures { told (λ u. u) result ≡ letter_check self.now }
+        ensures { as_answer (λ u. u) result ≡ letter_check self.now }
     {
         if self.poster >= 16 || self.stamp.entries[self.poster as usize] == 0 {
             return Err(Refusal::BadRecord);

@@ -1,11 +1,11 @@
 // Why a call refuses.
 ghost use Rattle.std.specs.Prelude.{◌≡◌, Some, decimal};
-ghost use Rattle.letters.specs.Refusals.{reason};
+ghost use Rattle.letters.specs.Refusals.{reason_of};
 
 use std::error::Error;
 use std::fmt;
 
-// A refusal. Its number stands in the definition `reason`, and is what is printed.
+// A refusal. Its number stands in the definition `reason_of`, and is what is printed.
 #[derive(Clone, Copy, Debug, PartialEq, Eq)]
 pub enum Refusal {
     // the quota is 0 or above 256
@@ -53,7 +53,7 @@ pub enum Refusal {
 impl Refusal {
     // 1 to 20, as docs/REFUSALS.md lists them.
     pub fn number(self) -> u8
-        ensures { result ≡ (reason self).number }
+        ensures { result ≡ (reason_of self).number }
     {
         match self {
             Refusal::BadQuota => 1,
@@ -82,7 +82,7 @@ impl Refusal {
 
 // Written as its number.
 impl fmt::Display for Refusal {
-    ghost output = { λ why. Some (decimal (reason why).number) };
+    ghost output = { λ why. Some (decimal (reason_of why).number) };
 
     fn fmt<W: fmt::Write>(&self, f: &mut fmt::Formatter<W>) -> fmt::Result {
         let number = self.number();

@@ -6,17 +6,17 @@ use Rattle.std.proofs.lemmas.List.{take_at, drop_at, take-append-le, length-appe
 use Rattle.std.specs.Result.{is_err}
 use Rattle.std.specs.Io.KnownBytes.{Appends, Consumes, IsAtEnd}
 use Rattle.letters.specs.declared.letter.Letter.{Letter}
-use Rattle.letters.specs.Forms.{Form, Lawful}
+use Rattle.letters.specs.Forms.{Form, LawfulForm}
 use Rattle.letters.specs.Letters.{parts_of}
 use Rattle.records.specs.declared.fault.Fault.{Fault}
 use Rattle.records.specs.Files.{file_of}
-use Rattle.records.specs.Readers.{Found, at_end, right, wrong, found, looked_at}
+use Rattle.records.specs.Readers.{Finding, at_end, right, wrong, finding_of, looked_at}
 use Rattle.records.specs.declared.record.TheConstants.{RECORD_SIZE}
 use Rattle.records.specs.Records.{record_of, wrong_byte, wrong_front}
 use Rattle.records.proofs.Filing.{file_one, length_file}
 use Rattle.records.proofs.RoundTrip.{begun, front_whole, record_long}
 use Rattle.chunks.proofs.Streams.{appended, read_on}
-use Rattle.listing.specs.Lines.{count_line, letter_line}
+use Rattle.listing.specs.ListingLines.{count_line, letter_line}
 use Rattle.listing.specs.Listings.{HeldListed, ListingWritten, counted, ended_line, ending_line, letter_lines}
 use Rattle.listing.proofs.Holding.{lines_append}
 
@@ -28,16 +28,16 @@ lines_same says n n' (m ∷ ms) e =
     ap (λ k. letter_line says k (parts_of m) ++ letter_lines says (n + 1) ms) e
     ∙ ap (λ l. letter_line says (counted n') (parts_of m) ++ l) (lines_same says (n + 1) (n' + 1) ms next)
 
-unless_true : (test : Bool) (x y : Found) → (test ≡ true → ⊥) → cond test x y ≡ y
+unless_true : (test : Bool) (x y : Finding) → (test ≡ true → ⊥) → cond test x y ≡ y
 unless_true true x y never = absurd (never refl)
 unless_true false x y never = refl
 
-module _ {B : Type 0} (form : Form B) (laws : Lawful form) where
-  some_found : (bs : List ℕ) → 0 < length bs → found form bs ≡ looked_at (wrong_front form bs)
+module _ {B : Type 0} (form : Form B) (laws : LawfulForm form) where
+  some_found : (bs : List ℕ) → 0 < length bs → finding_of form bs ≡ looked_at (wrong_front form bs)
   some_found bs some = unless_true (length bs == 0) at_end (looked_at (wrong_front form bs)) (λ e. let z = eqb-true (length bs) 0 e in absurd (omega arith))
 
   -- a letter's record is right, whatever comes behind it
-  letter_right : (m : Letter B) (bs : List ℕ) → found form (record_of form m ++ bs) ≡ right
+  letter_right : (m : Letter B) (bs : List ℕ) → finding_of form (record_of form m ++ bs) ≡ right
   letter_right m bs =
       let all = record_of form m ++ bs in
       let one = record_long form laws m in
@@ -46,7 +46,7 @@ module _ {B : Type 0} (form : Form B) (laws : Lawful form) where
       ∙ ap looked_at (begun form laws all m (omega arith, take_at (record_of form m) bs RECORD_SIZE one)).0
 
   -- of a whole record, more bytes behind it change nothing
-  whole_found : (bs later : List ℕ) → RECORD_SIZE ≤ length bs → found form (bs ++ later) ≡ found form bs
+  whole_found : (bs later : List ℕ) → RECORD_SIZE ≤ length bs → finding_of form (bs ++ later) ≡ finding_of form bs
   whole_found bs later long =
       let both = length-append bs later in
       some_found (bs ++ later) (omega arith)
@@ -54,13 +54,13 @@ module _ {B : Type 0} (form : Form B) (laws : Lawful form) where
       ∙ sym (some_found bs (omega arith))
 
   -- no two lists of letters have the same file, with a rest that does not begin with a letter's record
-  pub one_file : (xs ys : List (Letter B)) (r s : List ℕ) → file_of form xs ++ r ≡ file_of form ys ++ s → ¬ (found form r ≡ right) → ¬ (found form s ≡ right)
+  pub one_file : (xs ys : List (Letter B)) (r s : List ℕ) → file_of form xs ++ r ≡ file_of form ys ++ s → ¬ (finding_of form r ≡ right) → ¬ (finding_of form s ≡ right)
       → (xs ≡ ys) × (r ≡ s)
   one_file [] [] r s e never never' = (refl, e)
   one_file [] (y ∷ ys) r s e never never' =
-      absurd (never (ap (found form) (e ∙ append_assoc (record_of form y) (file_of form ys) s) ∙ letter_right y (file_of form ys ++ s)))
+      absurd (never (ap (finding_of form) (e ∙ append_assoc (record_of form y) (file_of form ys) s) ∙ letter_right y (file_of form ys ++ s)))
   one_file (x ∷ xs) [] r s e never never' =
-      absurd (never' (ap (found form) (sym e ∙ append_assoc (record_of form x) (file_of form xs) r) ∙ letter_right x (file_of form xs ++ r)))
+      absurd (never' (ap (finding_of form) (sym e ∙ append_assoc (record_of form x) (file_of form xs) r) ∙ letter_right x (file_of form xs ++ r)))
   one_file (x ∷ xs) (y ∷ ys) r s e never never' =
       let long = record_long form laws x in
       let long' = record_long form laws y in
@@ -75,7 +75,7 @@ module _ {B : Type 0} (form : Form B) (laws : Lawful form) where
       let same : xs ≡ ys = others.0 in
       (cc, others.1)
 
-module _ {B : Type 0} (form : Form B) (laws : Lawful form) (says : B → List ℕ) where
+module _ {B : Type 0} (form : Form B) (laws : LawfulForm form) (says : B → List ℕ) where
   -- where the listing stands: the pieces so far were the records of letters, and their lines are written
   pub record Between (bytes : List ℕ) (left before now : Option (List ℕ)) (count : ℕ) : Type 0 where
     pub past : List (Letter B)
@@ -126,8 +126,8 @@ module _ {B : Type 0} (form : Form B) (laws : Lawful form) (says : B → List �
           ∙ ap (λ l. l ++ (held.rest ++ later)) (sym (flat_map-append (record_of form) b.past held.letters))
 
       -- the listing ends here, by what stands behind the letters
-      ends_here : (later : List ℕ) → b.rest ≡ piece ++ later → ¬ (found form (held.rest ++ later) ≡ right)
-          → ended_line count' ended ≡ ending_line count' (found form (held.rest ++ later)) → Appends now now' (text ++ count_line count') → ListingWritten form says bytes before now'
+      ends_here : (later : List ℕ) → b.rest ≡ piece ++ later → ¬ (finding_of form (held.rest ++ later) ≡ right)
+          → ended_line count' ended ≡ ending_line count' (finding_of form (held.rest ++ later)) → Appends now now' (text ++ count_line count') → ListingWritten form says bytes before now'
       ends_here later e never line wrote =
           let k = length all in
           let last = count_line count' in
@@ -140,13 +140,13 @@ module _ {B : Type 0} (form : Form B) (laws : Lawful form) (says : B → List �
               file = split_all later e;
               ends = never;
               lines = ap (λ l. letter_lines says 0 b.past ++ (l ++ last)) added ∙ lines_all last ∙ ap (λ l. letter_lines says 0 all ++ (l ++ last)) line
-                  ∙ ap (λ n. letter_lines says 0 all ++ (ending_line n (found form (held.rest ++ later)) ++ count_line n)) counts_all;
+                  ∙ ap (λ n. letter_lines says 0 all ++ (ending_line n (finding_of form (held.rest ++ later)) ++ count_line n)) counts_all;
               only = λ ms more is none. one_file form laws ms all more (held.rest ++ later) (sym is ∙ split_all later e) none never;
             };
             written = appended before now now' (letter_lines says 0 b.past) here b.written wrote;
           }
 
-not_right : (f : Found) (byte : ℕ) → f ≡ wrong byte → ¬ (f ≡ right)
+not_right : (f : Finding) (byte : ℕ) → f ≡ wrong byte → ¬ (f ≡ right)
 not_right f byte e r = wrong_right byte (sym e ∙ r)
   where
     wrong_right : (byte : ℕ) → ¬ (wrong byte ≡ right)
@@ -162,7 +162,7 @@ left_none (Some x) m e i = some_is x m e ∙ i
     some_is : (x m : List ℕ) → Some x ≡ Some m → m ≡ x
     some_is x m e = cc
 
-module _ {B : Type 0} (form : Form B) (laws : Lawful form) (says : B → List ℕ) (left left' before now now' : Option (List ℕ)) (count count' : ℕ)
+module _ {B : Type 0} (form : Form B) (laws : LawfulForm form) (says : B → List ℕ) (left left' before now now' : Option (List ℕ)) (count count' : ℕ)
     (piece start text : List ℕ) (read : Consumes left left' piece) (clear : start ≡ []) where
   -- one piece more
   pub on : (known : Option (List ℕ)) (ended : Result (Unit {0}) Fault) → is_err ended ≡ false → HeldListed form says piece count start ended count' text → Appends now now' text
@@ -197,19 +197,19 @@ module _ {B : Type 0} (form : Form B) (laws : Lawful form) (says : B → List �
   at_last (Some bytes) (Ok done) held wrote over n whole b =
       let r = read_on b.rest left' piece (subst (λ (l : Option (List ℕ)). Consumes l left' piece) b.is_left read) in
       let none : held.rest ++ r.later ≡ [] = ap (λ l. l ++ r.later) held.ends ∙ left_none left' r.later r.is_left (over refl) in
-      let is : found form (held.rest ++ r.later) ≡ at_end = ap (found form) none in
+      let is : finding_of form (held.rest ++ r.later) ≡ at_end = ap (finding_of form) none in
       ends_here form laws says left left' before now now' count count' piece start text (Ok done) read clear held bytes b r.later r.split
       (λ e. absurd cc) (ap (ending_line count') (sym is)) wrote
   at_last (Some bytes) (Err fault) held wrote over n whole b =
       let r = read_on b.rest left' piece (subst (λ (l : Option (List ℕ)). Consumes l left' piece) b.is_left read) in
-      let is : found form (held.rest ++ r.later) ≡ wrong fault.byte = ⊎_elim
+      let is : finding_of form (held.rest ++ r.later) ≡ wrong fault.byte = ⊎_elim
       (λ long. whole_found form laws held.rest r.later (rest_long long) ∙ held.ends.1)
-      (λ end. ap (λ l. found form (held.rest ++ l)) (left_none left' r.later r.is_left end) ∙ ap (found form) (append-nil held.rest) ∙ held.ends.1)
+      (λ end. ap (λ l. finding_of form (held.rest ++ l)) (left_none left' r.later r.is_left end) ∙ ap (finding_of form) (append-nil held.rest) ∙ held.ends.1)
       whole in
       ends_here form laws says left left' before now now' count count' piece start text (Err fault) read clear held bytes b r.later r.split
-      (not_right (found form (held.rest ++ r.later)) fault.byte is) (ap (ending_line count') (sym is)) wrote
+      (not_right (finding_of form (held.rest ++ r.later)) fault.byte is) (ap (ending_line count') (sym is)) wrote
     where
-      some_left : (rest : List ℕ) → found form rest ≡ wrong fault.byte → 0 < length rest
+      some_left : (rest : List ℕ) → finding_of form rest ≡ wrong fault.byte → 0 < length rest
       some_left [] e = absurd (no_end fault.byte e)
       some_left (x ∷ xs) e = omega arith
 

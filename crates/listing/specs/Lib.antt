@@ -1,4 +1,4 @@
-pub mod Lines
+pub mod ListingLines
 pub mod Stepping
 pub mod Listings
 pub mod Asking

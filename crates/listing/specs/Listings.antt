@@ -6,23 +6,23 @@ use Rattle.letters.specs.Forms.{Form}
 use Rattle.letters.specs.Letters.{parts_of}
 use Rattle.records.specs.declared.fault.Fault.{Fault}
 use Rattle.records.specs.Files.{file_of}
-use Rattle.records.specs.Readers.{Found, at_end, right, wrong, found}
-use Rattle.listing.specs.Lines.{bad_line, count_line, letter_line}
+use Rattle.records.specs.Readers.{Finding, at_end, right, wrong, finding_of}
+use Rattle.listing.specs.ListingLines.{count_line, fault_line, letter_line}
 
 -- a count, which stays at its largest value
 abbrev pub counted : ℕ → ℕ
 counted n = min n (2 ^ 64 - 1)
 
 -- the line of what stands behind the letters: a fault, or nothing
-abbrev pub ending_line : ℕ → Found → List ℕ
+abbrev pub ending_line : ℕ → Finding → List ℕ
 ending_line index at_end = []
 ending_line index right = []
-ending_line index (wrong byte) = bad_line index byte
+ending_line index (wrong byte) = fault_line index byte
 
 -- the same, by how the listing of some bytes ended
 abbrev pub ended_line : ℕ → Result (Unit {0}) Fault → List ℕ
 ended_line index (Ok done) = []
-ended_line index (Err fault) = bad_line index fault.byte
+ended_line index (Err fault) = fault_line index fault.byte
 
 -- the lines of letters, in their order, each with its index: so many letters stand before them
 abbrev pub letter_lines : {B : Type 0} → (B → List ℕ) → ℕ → List (Letter B) → List ℕ
@@ -36,11 +36,11 @@ module _ {B : Type 0} (form : Form B) (says : B → List ℕ) where
     pub letters : List (Letter B)
     pub rest : List ℕ
     pub file : bytes ≡ file_of form letters ++ rest
-    pub ends : ¬ (found form rest ≡ right)
+    pub ends : ¬ (finding_of form rest ≡ right)
     pub lines : text ≡ letter_lines says 0 letters
-        ++ (ending_line (counted (length letters)) (found form rest) ++ count_line (counted (length letters)))
+        ++ (ending_line (counted (length letters)) (finding_of form rest) ++ count_line (counted (length letters)))
     -- no other letters and no other rest make up the file
-    pub only : (ms : List (Letter B)) (later : List ℕ) → bytes ≡ file_of form ms ++ later → ¬ (found form later ≡ right)
+    pub only : (ms : List (Letter B)) (later : List ℕ) → bytes ≡ file_of form ms ++ later → ¬ (finding_of form later ≡ right)
         → (ms ≡ letters) × (later ≡ rest)
 
   -- the listing of a file was written behind what was written before, and nothing else
@@ -56,7 +56,7 @@ module _ {B : Type 0} (form : Form B) (says : B → List ℕ) where
   -- how the listing of some bytes ended: at their end, or by the fault behind the letters, which has its index among them
   abbrev pub EndedBy : List (Letter B) → List ℕ → Result (Unit {0}) Fault → Type 0
   EndedBy letters rest (Ok done) = rest ≡ []
-  EndedBy letters rest (Err fault) = (fault.index ≡ length letters) × (found form rest ≡ wrong fault.byte)
+  EndedBy letters rest (Err fault) = (fault.index ≡ length letters) × (finding_of form rest ≡ wrong fault.byte)
 
   -- The lines of all letters of some bytes were added, and of the fault behind them. So many letters were counted before.
   pub record HeldListed (bytes : List ℕ) (count : ℕ) (before : List ℕ) (ended : Result (Unit {0}) Fault) (count' : ℕ) (after : List ℕ) : Type 0 where

@@ -2,7 +2,7 @@
 ghost use Rattle.std.specs.Prelude.{◌≡◌, ℕ, List, ◌++◌, OnOk, Some, string_bytes};
 ghost use Rattle.std.specs.Fmt.{WritesOnOk};
 ghost use Rattle.letters.specs.Texts.{text_bytes};
-ghost use Rattle.listing.specs.Lines.{bad_line, commas, count_line, job_says, letter_line, text_says};
+ghost use Rattle.listing.specs.ListingLines.{commas, count_line, fault_line, job_says, letter_line, text_says};
 
 use letters::body::Body;
 use letters::job::Job;
@@ -91,7 +91,7 @@ pub fn add_letter<B: Say>(line: &mut String, index: u64, parts: &Parts<B>) -> Re
 
 // Adds the line of a fault.
 pub fn add_fault(line: &mut String, index: u64, byte: u8) -> Result<(), AllocError>
-    ensures { OnOk result (string_bytes line.new ≡ string_bytes line.old ++ bad_line index byte) }
+    ensures { OnOk result (string_bytes line.new ≡ string_bytes line.old ++ fault_line index byte) }
 {
     writeln!(line, "{index} bad {byte}")
 }

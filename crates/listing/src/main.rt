@@ -5,7 +5,7 @@ ghost use Rattle.std.specs.Prelude.{◌≡◌, ◌↔◌, IfOk, OnOk, Err, strin
 ghost use Rattle.letters.specs.Jobs.{job_form};
 ghost use Rattle.letters.specs.Texts.{text_form};
 ghost use Rattle.listing.specs.Asking.{AsksForNone, AsksJobs, AsksTexts};
-ghost use Rattle.listing.specs.Lines.{job_says, text_says};
+ghost use Rattle.listing.specs.ListingLines.{job_says, text_says};
 ghost use Rattle.listing.specs.Listings.{HeldListed, Lists};
 ghost use Rattle.listing.specs.declared.failure.Failure.TheVariants.{Usage};
 

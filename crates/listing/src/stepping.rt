@@ -1,7 +1,7 @@
 // Listing record by record.
 ghost use Rattle.std.specs.Prelude.{◌≡◌, ◌++◌, IfOk, OnOk, string_bytes};
-ghost use Rattle.records.specs.Faults.{told_fault};
-ghost use Rattle.records.specs.Readers.{ahead, found, next_answer};
+ghost use Rattle.records.specs.Faults.{fault_as_answer};
+ghost use Rattle.records.specs.Readers.{bytes_ahead, finding_of, next_answer};
 ghost use Rattle.listing.specs.Stepping.{AskedOnce, next_line};
 
 use crate::line::{Say, add_fault, add_letter};
@@ -17,7 +17,7 @@ pub fn add_next<B: Say>(
     parts: &mut Parts<B>,
     line: &mut String,
 ) -> Result<Result<Option<usize>, Fault>, AllocError>
-    ensures answer { IfOk result (λ read. told_fault read ≡ next_answer reader.old.index (found B.form (ahead reader.old))) }
+    ensures answer { IfOk result (λ read. fault_as_answer read ≡ next_answer reader.old.index (finding_of B.form (bytes_ahead reader.old))) }
     ensures reads { AskedOnce B.form reader.old reader.new parts.old parts.new result }
     ensures line { OnOk result (string_bytes line.new ≡ string_bytes line.old ++ next_line B.form B.says index reader.old) }
 {

@@ -6,11 +6,11 @@ use Rattle.letters.specs.Letters.{letter_name}
 use Rattle.letters.specs.Names.{Name}
 use Rattle.letters.specs.Order.{SameLetter}
 use Rattle.letters.specs.Lists.{◌∈◌}
-use Rattle.causality.specs.Logs.{ForSheets}
+use Rattle.causality.specs.LetterLists.{ForSheets}
 use Rattle.causality.proofs.Lists.{in_as}
-use Rattle.sheets.specs.Sheets.{Kind, Lawful, draw_up_outcome, drawn_up}
+use Rattle.sheets.specs.Sheets.{Kind, LawfulKind, draw_up_outcome, drawn_up}
 use Rattle.sheets.proofs.Sheets.{converges}
-use Rattle.lives.specs.Keeps.{Agree}
+use Rattle.lives.specs.Guarantees.{SheetsAgree}
 
 -- letters of one name are the same
 pub same_named : {B : Type 0} (m k : Letter B) → letter_name m ≡ letter_name k → SameLetter m k
@@ -24,7 +24,7 @@ record Drawn {M B : Type 0} (kind : Kind M B) (l : List (Letter B)) (m : M) : Ty
 drawn : {M B : Type 0} (kind : Kind M B) (l : List (Letter B)) (m : M) → draw_up_outcome kind l ≡ Ok m → Drawn kind l m
 drawn kind l m e = record { fits = grind (arith, nat_tests); is = grind (arith, nat_tests) }
 
-pub agree : {M B : Type 0} (kind : Kind M B) → Lawful kind → (a b : List (Letter B)) → ForSheets a b → Agree kind a b
+pub agree : {M B : Type 0} (kind : Kind M B) → LawfulKind kind → (a b : List (Letter B)) → ForSheets a b → SheetsAgree kind a b
 agree {M} {B} kind laws a b fit same m m' e e' =
     let d = drawn kind a m e in
     let d' = drawn kind b m' e' in

@@ -1,4 +1,4 @@
--- What is kept of a room that was worked.
+-- What a reachable room guarantees.
 use Rattle.std.proofs.Common.{◌≡◌, ℕ, ◌*◌, ◌<◌, ◌≤◌, Bool, true, false, ◌↔◌, List, [], ◌∷◌, ◌++◌, map, length, take, drop, nat_le, Ok, Err, Result, sym, refl, ap, ◌∙◌, subst, inl, inr, append-nil, arith, take-append-drop}
 use Rattle.std.proofs.lemmas.Bool.{le-leb, leb-true}
 use Rattle.letters.specs.declared.letter.Letter.{Letter}
@@ -7,24 +7,24 @@ use Rattle.letters.specs.Names.{Name}
 use Rattle.letters.specs.Order.{CoversLetter, Ready, SameLetter}
 use Rattle.letters.specs.Refusals.{Reason, unless}
 use Rattle.causality.specs.declared.docket.DocketState.TheVariants.{Clear}
-use Rattle.causality.specs.History.{Event, History, LedTo, Seen, posted, posted_letters, seen_at, shown, told}
+use Rattle.causality.specs.History.{Event, History, LedTo, Seen, map_letters, posted, posted_letters, seen_at, shown}
 use Rattle.letters.specs.Lists.{◌∈◌, here, there}
 use Rattle.causality.specs.Theorems as theorems
-use Rattle.causality.specs.Logs.{Stands}
-use Rattle.causality.specs.Steps.{Stray}
+use Rattle.causality.specs.LetterLists.{HasLetter}
+use Rattle.causality.specs.WorldSteps.{Stray}
 use Rattle.causality.specs.Worlds.{Box}
 use Rattle.causality.proofs.Lists.{in_as, in_eq, in_none}
 use Rattle.causality.proofs.Named.{seen_told}
 use Rattle.causality.proofs.Turns.{told_in_turn}
 use Rattle.causality.proofs.Theorems.{causal_order, complete_delivery, enough_places, order_for_sheets, stamps_mean_led_to}
-use Rattle.sheets.specs.Sheets.{Kind, Lawful, draw_up_outcome, drawn_up}
-use Rattle.seats.specs.Outcomes.{follows, is_stray, seat_check}
+use Rattle.sheets.specs.Sheets.{Kind, LawfulKind, draw_up_outcome, drawn_up}
+use Rattle.seats.specs.Outcomes.{answer_then, is_stray, seat_check}
 use Rattle.seats.specs.Rooms.{RoomState, seat_at, start}
 use Rattle.seats.specs.Seats.{log_length}
-use Rattle.lives.specs.Traces.{Posting, Trace, events, posting, postings}
-use Rattle.lives.specs.Worked.{Moment}
+use Rattle.lives.specs.Traces.{Posting, Trace, events, posting_of, postings}
+use Rattle.lives.specs.Reachability.{Configuration}
 use Rattle.lives.specs.Drawing.{sheet_outcome}
-use Rattle.lives.specs.Keeps.{Agree, AlwaysKeeps, Complete, DrawnAlike, Genuine, InOrder, Keeps, SameLetters, Settled, hold_at, log_at}
+use Rattle.lives.specs.Guarantees.{AlwaysGuaranteed, Guarantees, RoomComplete, RoomGenuine, RoomInOrder, RoomQuiescent, SameLetters, SeatsAgree, SheetsAgree, hold_at, log_at}
 use Rattle.lives.proofs.Agreeing.{agree, same_named}
 use Rattle.seats.proofs.Clocks.{log_fits, row_end}
 use Rattle.lives.proofs.Cut.{cut_in, cut_one}
@@ -51,7 +51,7 @@ module _ {X Y : Type 0} (f : X → Y) where
   of_map y (x ∷ l) (there i) = let r = of_map y l i in record { one = r.one; inside = there r.inside; is = r.is }
 
 -- an answer that accepts after a check, and one after a check of places
-followed : {X : Type 0} (check : Result (Unit {0}) Reason) (r : Result X Reason) (x : X) → follows check r ≡ Ok x → r ≡ Ok x
+followed : {X : Type 0} (check : Result (Unit {0}) Reason) (r : Result X Reason) (x : X) → answer_then check r ≡ Ok x → r ≡ Ok x
 followed (Ok done) r x e = e
 followed (Err why) r x e = let z : ◌≡◌ {A = ℕ} 0 1 = cc in absurd (omega arith)
 
@@ -72,14 +72,14 @@ among_posted s m (shown t k ∷ h) (here e) = absurd cc
 among_posted s m (shown t k ∷ h) (there i) = among_posted s m h i
 
 -- what was seen was seen where names stand for the letters in the events
-seen_as : {A L : Type 0} (f : A → L) (s : ℕ) (i : L) (x : A) (h : History A) → Seen s x h → f x ≡ i → Seen s i (told f h)
+seen_as : {A L : Type 0} (f : A → L) (s : ℕ) (i : L) (x : A) (h : History A) → Seen s x h → f x ≡ i → Seen s i (map_letters f h)
 seen_as f s i x [] seen e = seen
 seen_as f s i x (posted t k ∷ h) (inl at) e = inl (at.0, sym e ∙ ap f at.1)
 seen_as f s i x (posted t k ∷ h) (inr seen) e = inr (seen_as f s i x h seen e)
 seen_as f s i x (shown t k ∷ h) (inl at) e = inl (at.0, sym e ∙ ap f at.1)
 seen_as f s i x (shown t k ∷ h) (inr seen) e = inr (seen_as f s i x h seen e)
 
-module _ {B : Type 0} (trace : Trace B) (w : Moment B) (life : Lives trace w) where
+module _ {B : Type 0} (trace : Trace B) (w : Configuration B) (life : Lives trace w) where
   abbrev st : RoomState
   st = w.room
 
@@ -98,9 +98,9 @@ module _ {B : Type 0} (trace : Trace B) (w : Moment B) (life : Lives trace w) wh
   in_log : (s : ℕ) → s < N → ((view w).box s).log ≡ log_at w s
   in_log s lt = ap (λ (b : Box B). b.log) (in_box s lt)
 
-  order_kept : (s : ℕ) → s < N → InOrder trace s (log_at w s)
+  order_kept : (s : ℕ) → s < N → RoomInOrder trace s (log_at w s)
   order_kept s lt =
-      let order : theorems.InOrder s h (log_at w s) = subst (theorems.InOrder s h) (in_log s lt) (causal_order.in_order N Q (view w) h life.run s) in
+      let order : theorems.WorldInOrder s h (log_at w s) = subst (theorems.WorldInOrder s h) (in_log s lt) (causal_order.in_order N Q (view w) h life.run s) in
       record {
         seen = λ i. (
           λ stands. subst (Seen s i) life.events_are (seen_as letter_name s i stands.letter h ((order.seen stands.letter).0 stands.inside) stands.called),
@@ -119,30 +119,30 @@ module _ {B : Type 0} (trace : Trace B) (w : Moment B) (life : Lives trace w) wh
   was_given m i = in_eq life.postings_are (in_map given i)
 
   -- a letter of the run is the very one that was posted
-  genuine_in : (m : Letter B) → theorems.Genuine N (view w) h m → Genuine trace w m
+  genuine_in : (m : Letter B) → theorems.WorldGenuine N (view w) h m → RoomGenuine trace w m
   genuine_in m g = record {
     seat = g.seat;
     made = was_given m (among_posted m.poster m h g.made);
     stands = in_eq (in_log m.poster g.seat) g.stands;
   }
 
-  posted_in : (m : Letter B) → theorems.Genuine N (view w) h m → m ∈ posted_letters h
+  posted_in : (m : Letter B) → theorems.WorldGenuine N (view w) h m → m ∈ posted_letters h
   posted_in m g = among_posted m.poster m h g.made
 
   all_genuine : theorems.AllGenuine N (view w) h
   all_genuine = causal_order.genuine N Q (view w) h life.run
 
-  logged : (s : ℕ) → s < N → (m : Letter B) → m ∈ log_at w s → theorems.Genuine N (view w) h m
+  logged : (s : ℕ) → s < N → (m : Letter B) → m ∈ log_at w s → theorems.WorldGenuine N (view w) h m
   logged s lt m i = all_genuine.log s m (in_eq (sym (in_log s lt)) i)
 
-  genuine_kept : (s : ℕ) → s < N → (m : Letter B) → m ∈ log_at w s → Genuine trace w m
+  genuine_kept : (s : ℕ) → s < N → (m : Letter B) → m ∈ log_at w s → RoomGenuine trace w m
   genuine_kept s lt m i = genuine_in m (logged s lt m i)
 
   -- posted letters of one name are equal
   one_letter : (m k : Letter B) → m ∈ posted_letters h → k ∈ posted_letters h → letter_name m ≡ letter_name k → m ≡ k
   one_letter m k i j e = order_for_sheets.equal N Q (view w) h life.run m k i j (same_named m k e)
 
-  named_kept : (i : Name) (body other : B) → posting i body ∈ postings trace → posting i other ∈ postings trace → body ≡ other
+  named_kept : (i : Name) (body other : B) → posting_of i body ∈ postings trace → posting_of i other ∈ postings trace → body ≡ other
   named_kept i body other p q =
       let o = of_map given _ (posted_letters h) (in_eq (sym life.postings_are) p) in
       let o' = of_map given _ (posted_letters h) (in_eq (sym life.postings_are) q) in
@@ -158,10 +158,10 @@ module _ {B : Type 0} (trace : Trace B) (w : Moment B) (life : Lives trace w) wh
   in_waiting : (s : ℕ) → s < N → (view w).waiting s ≡ w.carrier.waiting s
   in_waiting s lt = cut_in N s (w.carrier.waiting s) [] lt
 
-  held_kept : (s : ℕ) → s < N → (m : Letter B) → m ∈ hold_at w s → Genuine trace w m
+  held_kept : (s : ℕ) → s < N → (m : Letter B) → m ∈ hold_at w s → RoomGenuine trace w m
   held_kept s lt m i = genuine_in m (all_genuine.hold s m (in_eq (sym (ap (λ (b : Box B). b.hold) (in_box s lt))) i))
 
-  waiting_kept : (s : ℕ) → s < N → (m : Letter B) → m ∈ w.carrier.waiting s → Genuine trace w m
+  waiting_kept : (s : ℕ) → s < N → (m : Letter B) → m ∈ w.carrier.waiting s → RoomGenuine trace w m
   waiting_kept s lt m i = genuine_in m (all_genuine.waiting s m lt (in_eq (sym (in_waiting s lt)) i))
 
   -- what waits is no stray: the hold has a place for it
@@ -193,10 +193,10 @@ module _ {B : Type 0} (trace : Trace B) (w : Moment B) (life : Lives trace w) wh
   hold_size s lt = length_part w.holds (start st s) (seat_at st s).held
       (omega (arith, life.holds, row_end st life.fit s (seat_at st s).held lt (life.fit.placed s)))
 
-  delivery_kept : (s : ℕ) → s < N → Settled w s → Complete trace w s
-  delivery_kept s lt settled = record {
+  delivery_kept : (s : ℕ) → s < N → RoomQuiescent w s → RoomComplete trace w s
+  delivery_kept s lt quiescent = record {
     log = λ i body. (
-      λ c. in_as (λ j. posting (sym c.called j) (sym c.with_body j)) (was_given c.letter ((all.log c.letter).0 c.inside)),
+      λ c. in_as (λ j. posting_of (sym c.called j) (sym c.with_body j)) (was_given c.letter ((all.log c.letter).0 c.inside)),
       λ i.
           let o = of_map given _ (posted_letters h) (in_eq (sym life.postings_are) i) in
           record {
@@ -210,15 +210,15 @@ module _ {B : Type 0} (trace : Trace B) (w : Moment B) (life : Lives trace w) wh
     held = sym (hold_size s lt) ∙ ap length all.hold;
   }
     where
-      so_settled : theorems.Settled N Q s (view w)
+      so_settled : theorems.WorldQuiescent N Q s (view w)
       so_settled = record {
-        dockets = λ t l. cut_one N t (λ b. b.docket ≡ Clear) (box_of w t) no_box l (settled.dockets t l);
-        waits = cut_one N s (λ l. l ≡ []) (w.carrier.waiting s) [] lt settled.waits;
-        held = cut_one N s (λ b. (m : Letter B) → m ∈ b.hold → ¬ (Ready N Q s b.clock m)) (box_of w s) no_box lt settled.held;
+        dockets = λ t l. cut_one N t (λ b. b.docket ≡ Clear) (box_of w t) no_box l (quiescent.dockets t l);
+        waits = cut_one N s (λ l. l ≡ []) (w.carrier.waiting s) [] lt quiescent.waits;
+        held = cut_one N s (λ b. (m : Letter B) → m ∈ b.hold → ¬ (Ready N Q s b.clock m)) (box_of w s) no_box lt quiescent.held;
       }
 
-      all : theorems.Complete h (box_of w s)
-      all = subst (theorems.Complete h) (in_box s lt) (complete_delivery N Q (view w) h life.run s lt so_settled)
+      all : theorems.WorldComplete h (box_of w s)
+      all = subst (theorems.WorldComplete h) (in_box s lt) (complete_delivery N Q (view w) h life.run s lt so_settled)
 
   short_kept : (s : ℕ) → s < N → length (log_at w s) ≤ N * Q
   short_kept s lt =
@@ -226,21 +226,21 @@ module _ {B : Type 0} (trace : Trace B) (w : Moment B) (life : Lives trace w) wh
       let size = length_part w.logs (start st s) (log_length (seat_at st s)) (omega (arith, life.logs, row_end st life.fit s (log_length (seat_at st s)) lt most)) in
       omega arith
 
-  -- where one seat is settled, the letters of the other's log stand in its own
-  settled_into : (s t : ℕ) → s < N → t < N → Settled w t → (m : Letter B) → m ∈ log_at w s → Stands (letter_name m) (log_at w t)
+  -- where one seat is quiescent, the letters of the other's log stand in its own
+  settled_into : (s t : ℕ) → s < N → t < N → RoomQuiescent w t → (m : Letter B) → m ∈ log_at w s → HasLetter (letter_name m) (log_at w t)
   settled_into s t ls lt still m i =
       let c = ((delivery_kept t lt still).log _ _).1 (genuine_kept s ls m i).made in
       record { letter = c.letter; inside = c.inside; called = c.called }
 
-  settled_kept : (s t : ℕ) → s < N → t < N → Settled w s → Settled w t → SameLetters (log_at w s) (log_at w t)
+  settled_kept : (s t : ℕ) → s < N → t < N → RoomQuiescent w s → RoomQuiescent w t → SameLetters (log_at w s) (log_at w t)
   settled_kept s t ls lt one other = record { into = settled_into s t ls lt other; back = settled_into t s lt ls one }
 
-  module _ {M : Type 0} (kind : Kind M B) (laws : Lawful kind) (s t : ℕ) (ls : s < N) (lt : t < N) where
+  module _ {M : Type 0} (kind : Kind M B) (laws : LawfulKind kind) (s t : ℕ) (ls : s < N) (lt : t < N) where
     -- lists that two logs begin with
-    begun : (a a' b b' : List (Letter B)) → log_at w s ≡ a ++ a' → log_at w t ≡ b ++ b' → Agree kind a b
+    begun : (a a' b b' : List (Letter B)) → log_at w s ≡ a ++ a' → log_at w t ≡ b ++ b' → SheetsAgree kind a b
     begun a a' b b' e f = agree kind laws a b (order_for_sheets.logs N Q (view w) h life.run s t a a' b b' (in_log s ls ∙ e) (in_log t lt ∙ f))
 
-    sheets_kept : Agree kind (log_at w s) (log_at w t)
+    sheets_kept : SheetsAgree kind (log_at w s) (log_at w t)
     sheets_kept = begun (log_at w s) [] (log_at w t) [] (sym (append-nil (log_at w s))) (sym (append-nil (log_at w t)))
 
     -- a log goes up on a sheet that has places for any log of the room
@@ -251,21 +251,21 @@ module _ {B : Type 0} (trace : Trace B) (w : Moment B) (life : Lives trace w) wh
         let enough = le-leb (length (log_at w u)) kind.places (omega (arith, short_kept u lu)) in
         rw enough (ap Ok (sym drew.1))
 
-    drawn_kept : DrawnAlike kind w s t
+    drawn_kept : SeatsAgree kind w s t
     drawn_kept same m m' e e' = sheets_kept same m m' (goes_up s ls m e) (goes_up t lt m' e')
 
-    beginnings_kept : (i j : ℕ) → Agree kind (take i (log_at w s)) (take j (log_at w t))
+    beginnings_kept : (i j : ℕ) → SheetsAgree kind (take i (log_at w s)) (take j (log_at w t))
     beginnings_kept i j = begun (take i (log_at w s)) (drop i (log_at w s)) (take j (log_at w t)) (drop j (log_at w t))
         (sym (take-append-drop i (log_at w s))) (sym (take-append-drop j (log_at w t)))
 
-  all_kept : {M : Type 0} (kind : Kind M B) → Lawful kind → Keeps kind trace w
+  all_kept : {M : Type 0} (kind : Kind M B) → LawfulKind kind → Guarantees kind trace w
   all_kept kind laws = record {
     in_order = order_kept;
     genuine = genuine_kept;
     named = named_kept;
     alike = alike_kept;
     complete = delivery_kept;
-    settled = settled_kept;
+    quiescent = settled_kept;
     drawn = drawn_kept kind laws;
     sheets = sheets_kept kind laws;
     beginnings = beginnings_kept kind laws;
@@ -276,6 +276,6 @@ module _ {B : Type 0} (trace : Trace B) (w : Moment B) (life : Lives trace w) wh
     short = short_kept;
   }
 
--- The theorem about rooms: whatever steps a room was worked by from its opening on, it keeps what rooms keep.
-pub always_keeps : {M B : Type 0} (kind : Kind M B) → Lawful kind → AlwaysKeeps kind
-always_keeps kind laws trace w worked = all_kept trace w (lives worked) kind laws
+-- The theorem about rooms: by whatever steps a room is reachable from its opening, the guarantees hold there.
+pub always_keeps : {M B : Type 0} (kind : Kind M B) → LawfulKind kind → AlwaysGuaranteed kind
+always_keeps kind laws trace w reachable = all_kept trace w (lives reachable) kind laws

@@ -4,10 +4,10 @@ use Rattle.causality.specs.declared.docket.DocketState.TheVariants.{Clear}
 use Rattle.causality.specs.Worlds as worlds
 use Rattle.causality.specs.Runs as runs
 use Rattle.seats.specs.declared.seat.Seat.{Seat}
-use Rattle.seats.specs.Keeping.{Nobody, Sound, Within}
+use Rattle.seats.specs.Invariants.{Nobody, RoomInvariant, Within}
 use Rattle.seats.specs.Rooms.{RoomState, seat_at, start}
 use Rattle.seats.specs.Seats.{blank, clock_at, fresh, log_length}
-use Rattle.lives.specs.Worked.{Moment, Opened}
+use Rattle.lives.specs.Reachability.{Configuration, InitialConfiguration}
 use Rattle.lives.proofs.Cut.{cut_any}
 use Rattle.lives.proofs.Lives.{Lives}
 use Rattle.lives.proofs.Views.{box_of, no_box, view}
@@ -28,7 +28,7 @@ zeros : (p : ℕ) → clock_at fresh p ≡ 0
 zeros p = replicate_each (λ n. n ≡ 0) 16 0 0 refl refl p
 
 -- a room in which nothing has happened
-pub fresh_sound : (st : RoomState) → 1 ≤ st.count → st.count ≤ 16 → 1 ≤ st.quota → st.count * st.quota ≤ 256 → st.seats ≡ replicate 16 fresh → Sound st
+pub fresh_sound : (st : RoomState) → 1 ≤ st.count → st.count ≤ 16 → 1 ≤ st.quota → st.count * st.quota ≤ 256 → st.seats ≡ replicate 16 fresh → RoomInvariant st
 fresh_sound st some few quotaed small seats =
     record {
       some = some;
@@ -45,11 +45,11 @@ fresh_sound st some few quotaed small seats =
     each : (P : Seat → Type 0) → P fresh → P blank → (s : ℕ) → P (seat_at st s)
     each P f b s = subst (λ (l : List Seat). P (get_or l s blank)) (sym seats) (replicate_each P 16 fresh blank f b s)
 
-module _ {B : Type 0} (w : Moment B) (opens : Opened w) where
+module _ {B : Type 0} (w : Configuration B) (opens : InitialConfiguration w) where
   each : (P : Seat → Type 0) → P fresh → P blank → (s : ℕ) → P (seat_at w.room s)
   each P f b s = subst (λ (l : List Seat). P (get_or l s blank)) (sym opens.seats) (replicate_each P 16 fresh blank f b s)
 
-  at_opening : worlds.Opened (view w)
+  at_opening : worlds.InitialWorld (view w)
   at_opening = record {
     clock = λ s p. cut_any w.room.count s (λ b. b.clock p ≡ 0) (box_of w s) no_box (λ lt. each (λ x. clock_at x p ≡ 0) (zeros p) refl s) refl;
     log = λ s. cut_any w.room.count s (λ b. b.log ≡ []) (box_of w s) no_box

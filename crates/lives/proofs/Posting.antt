@@ -8,15 +8,15 @@ use Rattle.letters.specs.Letters.{entry_at, number_of}
 use Rattle.causality.specs.declared.docket.DocketState.{DocketState}
 use Rattle.causality.specs.declared.docket.DocketState.TheVariants.{Clear, Out, Parked}
 use Rattle.causality.specs.Worlds.{Box}
-use Rattle.causality.specs.Steps.{Posts}
+use Rattle.causality.specs.WorldSteps.{WorldPost}
 use Rattle.seats.specs.declared.seat.Seat.{Seat}
 use Rattle.seats.specs.declared.seat.DocketEvent.TheVariants.{Post}
-use Rattle.seats.specs.declared.slip.Slip.{Slip}
-use Rattle.seats.specs.Outcomes.{Posted, post_answer, posted_room, posted_seat, slip_of}
+use Rattle.seats.specs.declared.docket_id.DocketId.{DocketId}
+use Rattle.seats.specs.Outcomes.{Posted, newest_docket, post_answer, room_with_post, seat_with_post}
 use Rattle.seats.specs.Rooms.{RoomState, log_of, seat_at, start, with_seat}
-use Rattle.seats.specs.Seats.{allows, clock_at, docketed, log_length, moved}
-use Rattle.lives.specs.Worked.{Moment, moment}
-use Rattle.seats.specs.Keeping.{Kept, Sound}
+use Rattle.seats.specs.Seats.{allows, clock_at, docket_after, log_length, with_docket_event}
+use Rattle.lives.specs.Reachability.{Configuration, configuration_of}
+use Rattle.seats.specs.Invariants.{RoomInvariant, SeatInvariant}
 use Rattle.seats.proofs.Clocks.{clocked_kept, clocked_own, log_short}
 use Rattle.seats.proofs.Views.{log_gains, log_stays, told_seat}
 use Rattle.lives.proofs.Clocks.{one_longer}
@@ -28,29 +28,29 @@ was_clear Out e = absurd cc
 was_clear Parked e = absurd cc
 
 -- what a post that is accepted has tested, and what it answers
-record Accepted (st : RoomState) (logs s : ℕ) (d : Slip) : Type 0 where
+record Accepted (st : RoomState) (logs s : ℕ) (d : DocketId) : Type 0 where
   inside : s < st.count
   clear : allows (seat_at st s).docket Post ≡ true
   left : clock_at (seat_at st s) s < st.quota
   long : start st st.count ≤ logs
-  slip : d ≡ slip_of (posted_room st s) s
+  docket_id : d ≡ newest_docket (room_with_post st s) s
 
-accepted : (st : RoomState) (logs holds s : ℕ) (d : Slip) → Ok d ≡ post_answer st logs holds s → Accepted st logs s d
+accepted : (st : RoomState) (logs holds s : ℕ) (d : DocketId) → Ok d ≡ post_answer st logs holds s → Accepted st logs s d
 accepted st logs holds s d e = record {
   inside = grind (arith, nat_tests);
   clear = grind (arith, nat_tests);
   left = grind (arith, nat_tests);
   long = grind (arith, nat_tests);
-  slip = grind (arith, nat_tests);
+  docket_id = grind (arith, nat_tests);
 }
 
-module _ {B : Type 0} (w : Moment B) (fit : Sound w.room) (logs' : List (Letter B)) (s : ℕ) (body : B) (d : Slip)
+module _ {B : Type 0} (w : Configuration B) (fit : RoomInvariant w.room) (logs' : List (Letter B)) (s : ℕ) (body : B) (d : DocketId)
     (e : Ok d ≡ post_answer w.room (length w.logs) (length w.holds) s) (added : Posted w.room s body w.logs logs') where
   abbrev st : RoomState
   st = w.room
 
   abbrev x : Seat
-  x = posted_seat (seat_at st s) s
+  x = seat_with_post (seat_at st s) s
 
   abbrev m : Letter B
   m = added.letter
@@ -61,26 +61,26 @@ module _ {B : Type 0} (w : Moment B) (fit : Sound w.room) (logs' : List (Letter 
   inside : s < st.count
   inside = was.inside
 
-  kept : Kept st.count st.quota (docketed (seat_at st s) Post)
+  kept : SeatInvariant st.count st.quota (with_docket_event (seat_at st s) Post)
   kept = docketed_kept w fit s inside Post w.carrier
 
-  pub posted_kept : Kept st.count st.quota x
-  posted_kept = clocked_kept st.count st.quota fit.few (docketed (seat_at st s) Post) kept s inside (clock_at (seat_at st s) s + 1) (omega (arith, was.left))
+  pub posted_kept : SeatInvariant st.count st.quota x
+  posted_kept = clocked_kept st.count st.quota fit.few (with_docket_event (seat_at st s) Post) kept s inside (clock_at (seat_at st s) s + 1) (omega (arith, was.left))
 
   own : clock_at x s ≡ clock_at (seat_at st s) s + 1
-  own = clocked_own st.count st.quota fit.few (docketed (seat_at st s) Post) kept s inside (clock_at (seat_at st s) s + 1)
+  own = clocked_own st.count st.quota fit.few (with_docket_event (seat_at st s) Post) kept s inside (clock_at (seat_at st s) s + 1)
 
   more : log_length x ≡ log_length (seat_at st s) + 1
-  more = one_longer st.count st.quota fit.few (docketed (seat_at st s) Post) kept s inside
+  more = one_longer st.count st.quota fit.few (with_docket_event (seat_at st s) Post) kept s inside
 
   short : log_length (seat_at st s) < st.count * st.quota
-  short = log_short st.count st.quota fit.few (docketed (seat_at st s) Post) kept s inside was.left
+  short = log_short st.count st.quota fit.few (with_docket_event (seat_at st s) Post) kept s inside was.left
 
   told : seat_at (with_seat st s x) s ≡ x
   told = told_seat st fit s inside x
 
-  abbrev pub posted_moment : Moment B
-  posted_moment = moment (posted_room st s) logs' w.holds w.carrier
+  abbrev pub posted_moment : Configuration B
+  posted_moment = configuration_of (room_with_post st s) logs' w.holds w.carrier
 
   at_s : (P : Box B → Box B → Type 0) → P (box_of w s) (box_of posted_moment s) → P ((view w).box s) ((view posted_moment).box s)
   at_s = at_seat w fit s inside x logs' w.holds w.carrier
@@ -103,7 +103,7 @@ module _ {B : Type 0} (w : Moment B) (fit : Sound w.room) (logs' : List (Letter 
   stays : (t : ℕ) → t < st.count → ¬ (t ≡ s) → log_of (with_seat st s x) logs' t ≡ log_of st w.logs t
   stays t lt ne = ap (λ l. log_of (with_seat st s x) l t) added.table ∙ log_stays st fit w.logs s inside x m more short was.long t ne
 
-  pub posts_step : Posts st.count st.quota s m (view w) (view posted_moment)
+  pub posts_step : WorldPost st.count st.quota s m (view w) (view posted_moment)
   posts_step = record {
     seat = inside;
     quota = at_s (λ b b'. b.clock s < st.quota) was.left;
@@ -115,7 +115,7 @@ module _ {B : Type 0} (w : Moment B) (fit : Sound w.room) (logs' : List (Letter 
     clock = λ p. at_s (λ b b'. b'.clock p ≡ entry_at m.stamp p) (ap (λ (y : Seat). clock_at y p) told ∙ sym (stamp p));
     log = at_s (λ b b'. b'.log ≡ b.log ++ (m ∷ [])) gains;
     hold = at_s (λ b b'. b'.hold ≡ b.hold) (ap (λ (y : Seat). take y.held (drop (start st s) w.holds)) told);
-    docket = at_s (λ b b'. b'.docket ≡ Out) (ap (λ (y : Seat). y.docket) told ∙ ap (λ (k : DocketState). moved k Post) clear);
+    docket = at_s (λ b b'. b'.docket ≡ Out) (ap (λ (y : Seat). y.docket) told ∙ ap (λ (k : DocketState). docket_after k Post) clear);
     elsewhere = elsewhere w fit s inside x logs' w.holds w.carrier stays (λ t lt. hold_else w fit s inside x t);
     waiting = λ t. refl;
   }
@@ -124,7 +124,7 @@ module _ {B : Type 0} (w : Moment B) (fit : Sound w.room) (logs' : List (Letter 
   pub post_number : number_of m ≡ d.number
   post_number =
       ap (entry_at m.stamp) poster ∙ stamp s
-      ∙ sym (ap (λ (k : Slip). k.number) was.slip ∙ ap (λ (y : Seat). clock_at y s) told)
+      ∙ sym (ap (λ (k : DocketId). k.number) was.docket_id ∙ ap (λ (y : Seat). clock_at y s) told)
 
   pub post_poster : m.poster ≡ s
   post_poster = poster

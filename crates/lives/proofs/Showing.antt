@@ -7,13 +7,13 @@ use Rattle.letters.specs.Order.{Ready, ready}
 use Rattle.letters.specs.Refusals.{Reason}
 use Rattle.letters.proofs.Readiness.{decides_ready}
 use Rattle.causality.specs.Worlds.{Box}
-use Rattle.causality.specs.Steps.{Shows}
+use Rattle.causality.specs.WorldSteps.{WorldShow}
 use Rattle.seats.specs.declared.seat.Seat.{Seat}
-use Rattle.seats.specs.Outcomes.{first_ready, follows, or_none_ready, seat_check, show_holds, show_logs, show_outcome, shown_seat}
+use Rattle.seats.specs.Outcomes.{answer_then, first_ready, or_none_ready, seat_check, seat_with_show, show_holds, show_logs, show_outcome}
 use Rattle.seats.specs.Rooms.{RoomState, foot, hold_of, seat_at, start, with_seat}
-use Rattle.seats.specs.Seats.{clock_at, clocked, log_length}
-use Rattle.lives.specs.Worked.{Moment, moment}
-use Rattle.seats.specs.Keeping.{Kept, Sound}
+use Rattle.seats.specs.Seats.{clock_at, log_length, with_clock_entry}
+use Rattle.lives.specs.Reachability.{Configuration, configuration_of}
+use Rattle.seats.specs.Invariants.{RoomInvariant, SeatInvariant}
 use Rattle.seats.proofs.Accepted.{Visited, visited}
 use Rattle.seats.proofs.Clocks.{clocked_kept, clocked_own, log_short, row_end, seat_kept}
 use Rattle.seats.proofs.Tables.{length-closed, length_part}
@@ -30,18 +30,18 @@ not_ready st s m is can =
     let z : ◌≡◌ {A = ℕ} 0 1 = cc in
     omega arith
 
-both_yes : {X : Type 0} (c : Result (Unit {0}) Reason) (o : Option X) (x : X) → Ok x ≡ follows c (or_none_ready o) → (Ok tt ≡ c) × (Some x ≡ o)
+both_yes : {X : Type 0} (c : Result (Unit {0}) Reason) (o : Option X) (x : X) → Ok x ≡ answer_then c (or_none_ready o) → (Ok tt ≡ c) × (Some x ≡ o)
 both_yes (Ok yes') (Some y) x e = (refl, cc)
 both_yes (Ok yes') None x e = absurd cc
 both_yes (Err why) o x e = absurd cc
 
-module _ {B : Type 0} (w : Moment B) (fit : Sound w.room) (s k : ℕ) (m : Letter B)
+module _ {B : Type 0} (w : Configuration B) (fit : RoomInvariant w.room) (s k : ℕ) (m : Letter B)
     (e : Ok (k, m) ≡ show_outcome w.room (length w.logs) w.holds s) where
   abbrev st : RoomState
   st = w.room
 
   abbrev x : Seat
-  x = shown_seat (seat_at st s) m
+  x = seat_with_show (seat_at st s) m
 
   abbrev logs' : List (Letter B)
   logs' = show_logs st (Ok (k, m)) s w.logs
@@ -49,8 +49,8 @@ module _ {B : Type 0} (w : Moment B) (fit : Sound w.room) (s k : ℕ) (m : Lette
   abbrev holds' : List (Letter B)
   holds' = show_holds st (Ok (k, m)) s w.holds
 
-  abbrev pub shown_moment : Moment B
-  shown_moment = moment (with_seat st s x) logs' holds' w.carrier
+  abbrev pub shown_moment : Configuration B
+  shown_moment = configuration_of (with_seat st s x) logs' holds' w.carrier
 
   abbrev H : List (Letter B)
   H = hold_of st w.holds s
@@ -64,7 +64,7 @@ module _ {B : Type 0} (w : Moment B) (fit : Sound w.room) (s k : ℕ) (m : Lette
   pub show_inside : s < st.count
   show_inside = at.inside
 
-  seat : Kept st.count st.quota (seat_at st s)
+  seat : SeatInvariant st.count st.quota (seat_at st s)
   seat = seat_kept st fit s (omega (arith, at.inside, fit.few))
 
   told : seat_at (with_seat st s x) s ≡ x
@@ -77,10 +77,10 @@ module _ {B : Type 0} (w : Moment B) (fit : Sound w.room) (s k : ℕ) (m : Lette
   can = (decides_ready (seat_at st s).clock m st.count st.quota s).0 first.passes
 
   -- the poster's entry goes up by one
-  clock_is : clocked (seat_at st s) m.poster (number_of m) ≡ clocked (seat_at st s) m.poster (clock_at (seat_at st s) m.poster + 1)
-  clock_is = ap (clocked (seat_at st s) m.poster) can.next
+  clock_is : with_clock_entry (seat_at st s) m.poster (number_of m) ≡ with_clock_entry (seat_at st s) m.poster (clock_at (seat_at st s) m.poster + 1)
+  clock_is = ap (with_clock_entry (seat_at st s) m.poster) can.next
 
-  pub shown_kept : Kept st.count st.quota x
+  pub shown_kept : SeatInvariant st.count st.quota x
   shown_kept =
       let kept = clocked_kept st.count st.quota fit.few (seat_at st s) seat m.poster can.below (number_of m) can.within in
       record { whole = kept.whole; within = kept.within; nobody = kept.nobody; placed = omega (arith, kept.placed) }
@@ -99,7 +99,7 @@ module _ {B : Type 0} (w : Moment B) (fit : Sound w.room) (s k : ℕ) (m : Lette
   at_s : (P : Box B → Box B → Type 0) → P (box_of w s) (box_of shown_moment s) → P ((view w).box s) ((view shown_moment).box s)
   at_s = at_seat w fit s at.inside x logs' holds' w.carrier
 
-  pub shows_step : Shows st.count st.quota s m (view w) (view shown_moment)
+  pub shows_step : WorldShow st.count st.quota s m (view w) (view shown_moment)
   shows_step = record {
     seat = at.inside;
     before = take k H;

@@ -3,7 +3,7 @@ use Rattle.std.proofs.Common.{◌≡◌, ℕ, zero, suc, ◌+◌, ◌<◌, Bool,
 use Rattle.std.proofs.lemmas.Bool.{cases_Bool, cond-true, cond-false}
 use Rattle.letters.specs.Lists.{◌∈◌, here, there}
 use Rattle.causality.proofs.Lists.{in_none}
-use Rattle.seats.specs.Outcomes.{first}
+use Rattle.seats.specs.Outcomes.{first_passing}
 
 abbrev inside : {X : Type 0} → Option X → X → X
 inside (Some x) d = x
@@ -21,12 +21,12 @@ record From {X : Type 0} (f : X → Bool) (i : ℕ) (xs : List X) (k : ℕ) (x :
   is : k ≡ i + at
   found : First f xs at x
 
-from : {X : Type 0} (f : X → Bool) (i : ℕ) (xs : List X) (k : ℕ) (x : X) → first f i xs ≡ Some (k, x) → From f i xs k x
+from : {X : Type 0} (f : X → Bool) (i : ℕ) (xs : List X) (k : ℕ) (x : X) → first_passing f i xs ≡ Some (k, x) → From f i xs k x
 from f i [] k x e = absurd cc
 from {X} f i (y ∷ ys) k x e =
     ⊎_elim
     (λ yes'.
-    let is : (i, y) ≡ (k, x) = ap (λ o. inside o (i, y)) (sym (cond-true (f y) (Some (i, y)) (first f (i + 1) ys) yes') ∙ e) in
+    let is : (i, y) ≡ (k, x) = ap (λ o. inside o (i, y)) (sym (cond-true (f y) (Some (i, y)) (first_passing f (i + 1) ys) yes') ∙ e) in
     let place : i ≡ k = ap (λ z. z.0) is in
     let same : y ≡ x = ap (λ z. z.1) is in
     record {
@@ -56,14 +56,14 @@ from {X} f i (y ∷ ys) k x e =
     one y ys n no' rest z (here q) = subst (λ (u : X). f u ≡ false) (sym q) no'
     one y ys n no' rest z (there j) = rest z j
 
-pub first_at : {X : Type 0} (f : X → Bool) (xs : List X) (k : ℕ) (x : X) → first f 0 xs ≡ Some (k, x) → First f xs k x
+pub first_at : {X : Type 0} (f : X → Bool) (xs : List X) (k : ℕ) (x : X) → first_passing f 0 xs ≡ Some (k, x) → First f xs k x
 first_at f xs k x e = let h = from f 0 xs k x e in let is : h.at ≡ k = omega (arith, h.is) in subst (λ (n : ℕ). First f xs n x) is h.found
 
-pub none_passes : {X : Type 0} (f : X → Bool) (i : ℕ) (xs : List X) → first f i xs ≡ None → (y : X) → y ∈ xs → f y ≡ false
+pub none_passes : {X : Type 0} (f : X → Bool) (i : ℕ) (xs : List X) → first_passing f i xs ≡ None → (y : X) → y ∈ xs → f y ≡ false
 none_passes f i [] e y j = absurd (in_none j)
 none_passes {X} f i (x ∷ xs) e y j =
     ⊎_elim
-    (λ yes'. let clash : Some (i, x) ≡ None = sym (cond-true (f x) (Some (i, x)) (first f (i + 1) xs) yes') ∙ e in absurd cc)
+    (λ yes'. let clash : Some (i, x) ≡ None = sym (cond-true (f x) (Some (i, x)) (first_passing f (i + 1) xs) yes') ∙ e in absurd cc)
     (λ no'. go no' (none_passes f (i + 1) xs (sym (cond-false (f x) _ _ no') ∙ e)) j)
     (cases_Bool (f x))
   where

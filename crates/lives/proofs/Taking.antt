@@ -8,15 +8,15 @@ use Rattle.letters.specs.Order.{SameLetter}
 use Rattle.carriers.specs.Meaning.{Drawn, Meaning, waits_at}
 use Rattle.letters.specs.Lists.{◌∈◌}
 use Rattle.causality.specs.Worlds.{Box}
-use Rattle.causality.specs.Steps.{Outcome, Repeat, Stray, Takes, among_held, covered, no_place, no_seat, own, past_quota}
-use Rattle.causality.specs.Steps as outcome
+use Rattle.causality.specs.WorldSteps.{Outcome, Repeat, Stray, WorldTake, among_held, covered, no_place, no_seat, own, past_quota}
+use Rattle.causality.specs.WorldSteps as outcome
 use Rattle.causality.proofs.Lists.{in_eq, in_middle}
 use Rattle.seats.specs.declared.seat.Seat.{Seat}
-use Rattle.seats.specs.Outcomes.{first, is_called, is_repeat, is_some, is_stray, take_check}
+use Rattle.seats.specs.Outcomes.{first_passing, is_called, is_repeat, is_some, is_stray, take_check}
 use Rattle.seats.specs.Rooms.{RoomState, hold_of, seat_at, start, with_seat}
-use Rattle.seats.specs.Seats.{clock_at, holding, log_length}
-use Rattle.lives.specs.Worked.{Moment, moment}
-use Rattle.seats.specs.Keeping.{Kept, Sound}
+use Rattle.seats.specs.Seats.{clock_at, log_length, with_one_held_more}
+use Rattle.lives.specs.Reachability.{Configuration, configuration_of}
+use Rattle.seats.specs.Invariants.{RoomInvariant, SeatInvariant}
 use Rattle.seats.proofs.Clocks.{row_end, seat_kept}
 use Rattle.seats.proofs.Tables.{length_part}
 use Rattle.seats.proofs.Views.{hold_gains, hold_rests, told_seat}
@@ -45,7 +45,7 @@ pub record Fine {B : Type 0} (st : RoomState) (s : ℕ) (m : Letter B) : Type 0 
 pub fine : {B : Type 0} (st : RoomState) (s : ℕ) (m : Letter B) → is_stray st s m ≡ false → Fine st s m
 fine st s m e = record { poster = grind (arith, nat_tests); other = grind (arith, nat_tests); quota = grind (arith, nat_tests); free = grind (arith, nat_tests) }
 
-module _ {B : Type 0} (w : Moment B) (fit : Sound w.room) (s : ℕ) (m : Letter B) (inside : s < w.room.count)
+module _ {B : Type 0} (w : Configuration B) (fit : RoomInvariant w.room) (s : ℕ) (m : Letter B) (inside : s < w.room.count)
     (long : start w.room w.room.count ≤ length w.holds) where
   abbrev st : RoomState
   st = w.room
@@ -87,19 +87,19 @@ module _ {B : Type 0} (w : Moment B) (fit : Sound w.room) (s : ℕ) (m : Letter 
 
   new_here : is_repeat st w.holds s m ≡ false → clock_at (seat_at st s) m.poster < number_of m
   new_here e = leb-false (number_of m) (clock_at (seat_at st s) m.poster)
-      (or_parts (leb (number_of m) (clock_at (seat_at st s) m.poster)) (is_some (first (is_called m.poster (number_of m)) 0 H)) e).0
+      (or_parts (leb (number_of m) (clock_at (seat_at st s) m.poster)) (is_some (first_passing (is_called m.poster (number_of m)) 0 H)) e).0
 
-  not_held : is_repeat st w.holds s m ≡ false → is_some (first (is_called m.poster (number_of m)) 0 H) ≡ false
-  not_held e = (or_parts (leb (number_of m) (clock_at (seat_at st s) m.poster)) (is_some (first (is_called m.poster (number_of m)) 0 H)) e).1
+  not_held : is_repeat st w.holds s m ≡ false → is_some (first_passing (is_called m.poster (number_of m)) 0 H) ≡ false
+  not_held e = (or_parts (leb (number_of m) (clock_at (seat_at st s) m.poster)) (is_some (first_passing (is_called m.poster (number_of m)) 0 H)) e).1
 
-  hit : (o : Option (ℕ × Letter B)) → o ≡ first (is_called m.poster (number_of m)) 0 H → is_some o ≡ true → Repeat b m
+  hit : (o : Option (ℕ × Letter B)) → o ≡ first_passing (is_called m.poster (number_of m)) 0 H → is_some o ≡ true → Repeat b m
   hit (Some (i, k)) e yes' =
       let f = first_at (is_called m.poster (number_of m)) H i k (sym e) in
       let is = called m.poster (number_of m) k f.passes in
       among_held k (in_eq (sym f.whole) (in_middle k (take i H) (drop (suc i) H))) (record { poster = sym is.0; number = sym is.1 })
   hit None e yes' = absurd cc
 
-  miss : (o : Option (ℕ × Letter B)) → o ≡ first (is_called m.poster (number_of m)) 0 H → is_some o ≡ false → (k : Letter B) → k ∈ H → ¬ (SameLetter m k)
+  miss : (o : Option (ℕ × Letter B)) → o ≡ first_passing (is_called m.poster (number_of m)) 0 H → is_some o ≡ false → (k : Letter B) → k ∈ H → ¬ (SameLetter m k)
   miss (Some (i, k)) e no' j l same = absurd cc
   miss None e no' j l same =
       let clash : true ≡ false = sym (and_from _ _ (eq-eqb j.poster m.poster (sym same.poster)) (eq-eqb (number_of j) (number_of m) (sym same.number)))
@@ -108,17 +108,17 @@ module _ {B : Type 0} (w : Moment B) (fit : Sound w.room) (s : ℕ) (m : Letter 
       omega arith
 
   pub a_repeat : is_repeat st w.holds s m ≡ true → Repeat b m
-  a_repeat e = elim (or_cases _ _ e) [ inl h ↦ covered (leb-true _ _ h) | inr h ↦ hit (first (is_called m.poster (number_of m)) 0 H) refl h ]
+  a_repeat e = elim (or_cases _ _ e) [ inl h ↦ covered (leb-true _ _ h) | inr h ↦ hit (first_passing (is_called m.poster (number_of m)) 0 H) refl h ]
 
   pub no_repeat : is_repeat st w.holds s m ≡ false → ¬ (Repeat b m)
   no_repeat e = λ why.
       let new = new_here e in
       elim why [
         | covered h ↦ omega arith
-        | among_held k i same ↦ miss (first (is_called m.poster (number_of m)) 0 H) refl (not_held e) k i same
+        | among_held k i same ↦ miss (first_passing (is_called m.poster (number_of m)) 0 H) refl (not_held e) k i same
       ]
 
-module _ {B : Type 0} (w : Moment B) (fit : Sound w.room) (c' : Meaning (Letter B)) (s place : ℕ) (m : Letter B)
+module _ {B : Type 0} (w : Configuration B) (fit : RoomInvariant w.room) (c' : Meaning (Letter B)) (s place : ℕ) (m : Letter B)
     (can : Takeable w.room (length w.holds) w.carrier s place) (there : Nth (w.carrier.waiting s) place m) (drawn : Drawn w.carrier s place c') where
   abbrev N : ℕ
   N = w.room.count
@@ -129,14 +129,14 @@ module _ {B : Type 0} (w : Moment B) (fit : Sound w.room) (c' : Meaning (Letter 
   abbrev W : List (Letter B)
   W = w.carrier.waiting s
 
-  others : (t : ℕ) → ¬ (t ≡ s) → (view (moment w.room w.logs w.holds c')).waiting t ≡ (view w).waiting t
+  others : (t : ℕ) → ¬ (t ≡ s) → (view (configuration_of w.room w.logs w.holds c')).waiting t ≡ (view w).waiting t
   others t ne = cut_same N t (w.carrier.waiting t) (c'.waiting t) [] (λ lt. drawn.others t ne)
 
   -- a letter that is thrown away
-  abbrev pub thrown_moment : Moment B
-  thrown_moment = moment w.room w.logs w.holds c'
+  abbrev pub thrown_moment : Configuration B
+  thrown_moment = configuration_of w.room w.logs w.holds c'
 
-  pub thrown_step : Outcome N Q s m (box_of w s) (box_of w s) → Takes N Q s place m (view w) (view thrown_moment)
+  pub thrown_step : Outcome N Q s m (box_of w s) (box_of w s) → WorldTake N Q s place m (view w) (view thrown_moment)
   thrown_step why = record {
     seat = can.inside;
     before = take place W;
@@ -154,15 +154,15 @@ module _ {B : Type 0} (w : Moment B) (fit : Sound w.room) (c' : Meaning (Letter 
 
   -- a letter that goes to the end of the hold
   abbrev x : Seat
-  x = holding (seat_at w.room s)
+  x = with_one_held_more (seat_at w.room s)
 
   abbrev holds' : List (Letter B)
   holds' = set w.holds (start w.room s + (seat_at w.room s).held) m
 
-  abbrev pub held_moment : Moment B
-  held_moment = moment (with_seat w.room s x) w.logs holds' c'
+  abbrev pub held_moment : Configuration B
+  held_moment = configuration_of (with_seat w.room s x) w.logs holds' c'
 
-  pub holding_kept : Fine w.room s m → Kept N Q x
+  pub holding_kept : Fine w.room s m → SeatInvariant N Q x
   holding_kept ok =
       let k = seat_kept w.room fit s (omega (arith, can.inside, fit.few)) in
       record { whole = k.whole; within = k.within; nobody = k.nobody; placed = omega (arith, ok.free) }
@@ -170,7 +170,7 @@ module _ {B : Type 0} (w : Moment B) (fit : Sound w.room) (c' : Meaning (Letter 
   at_s : (P : Box B → Box B → Type 0) → P (box_of w s) (box_of held_moment s) → P ((view w).box s) ((view held_moment).box s)
   at_s = at_seat w fit s can.inside x w.logs holds' c'
 
-  pub held_step : is_stray w.room s m ≡ false → is_repeat w.room w.holds s m ≡ false → Takes N Q s place m (view w) (view held_moment)
+  pub held_step : is_stray w.room s m ≡ false → is_repeat w.room w.holds s m ≡ false → WorldTake N Q s place m (view w) (view held_moment)
   held_step ok new =
       let told = told_seat w.room fit s can.inside x in
       let free = (fine w.room s m ok).free in

@@ -5,19 +5,19 @@ use Rattle.carriers.specs.Meaning.{Meaning}
 use Rattle.causality.specs.declared.docket.DocketState.{DocketState}
 use Rattle.causality.specs.declared.docket.DocketState.TheVariants.{Clear}
 use Rattle.causality.specs.Worlds.{Box, World, Elsewhere}
-use Rattle.causality.specs.Steps.{MovesDocket}
+use Rattle.causality.specs.WorldSteps.{MovesDocket}
 use Rattle.seats.specs.declared.seat.Seat.{Seat}
 use Rattle.seats.specs.declared.seat.DocketEvent.{DocketEvent}
 use Rattle.seats.specs.Rooms.{hold_of, log_of, seat_at, start, with_seat}
-use Rattle.seats.specs.Seats.{clock_at, docketed, log_length, moved}
-use Rattle.lives.specs.Worked.{Moment, moment}
-use Rattle.seats.specs.Keeping.{Kept, Sound}
+use Rattle.seats.specs.Seats.{clock_at, docket_after, log_length, with_docket_event}
+use Rattle.lives.specs.Reachability.{Configuration, configuration_of}
+use Rattle.seats.specs.Invariants.{RoomInvariant, SeatInvariant}
 use Rattle.seats.proofs.Clocks.{seat_kept}
 use Rattle.seats.proofs.Views.{other_seat, told_seat}
 use Rattle.lives.proofs.Cut.{cut_same, cut_two}
 
 module _ {B : Type 0} where
-  abbrev pub box_of : Moment B → ℕ → Box B
+  abbrev pub box_of : Configuration B → ℕ → Box B
   box_of w s = record {
     clock = clock_at (seat_at w.room s);
     log = log_of w.room w.logs s;
@@ -30,17 +30,17 @@ module _ {B : Type 0} where
   no_box = record { clock = λ p. 0; log = []; hold = []; docket = Clear }
 
   -- a room has no boxes past its seats
-  abbrev pub view : Moment B → World B
+  abbrev pub view : Configuration B → World B
   view w = record {
     box = λ s. cond (ltb s w.room.count) (box_of w s) no_box;
     waiting = λ s. cond (ltb s w.room.count) (w.carrier.waiting s) [];
   }
 
-  same_box : (w w' : Moment B) (t : ℕ) → seat_at w'.room t ≡ seat_at w.room t → log_of w'.room w'.logs t ≡ log_of w.room w.logs t
+  same_box : (w w' : Configuration B) (t : ℕ) → seat_at w'.room t ≡ seat_at w.room t → log_of w'.room w'.logs t ≡ log_of w.room w.logs t
       → hold_of w'.room w'.holds t ≡ hold_of w.room w.holds t → box_of w' t ≡ box_of w t
   same_box w w' t q e f = λ j. record { clock = clock_at (q j); log = e j; hold = f j; docket = (q j).docket }
 
-module _ {B : Type 0} (w : Moment B) (fit : Sound w.room) (s : ℕ) (inside : s < w.room.count) (x : Seat) where
+module _ {B : Type 0} (w : Configuration B) (fit : RoomInvariant w.room) (s : ℕ) (inside : s < w.room.count) (x : Seat) where
   -- a table that is not written
   pub log_else : (t : ℕ) → ¬ (t ≡ s) → log_of (with_seat w.room s x) w.logs t ≡ log_of w.room w.logs t
   log_else t ne = ap (λ (y : Seat). take (log_length y) (drop (start w.room t) w.logs)) (other_seat w.room fit s inside x t ne)
@@ -49,9 +49,9 @@ module _ {B : Type 0} (w : Moment B) (fit : Sound w.room) (s : ℕ) (inside : s 
   hold_else t ne = ap (λ (y : Seat). take y.held (drop (start w.room t) w.holds)) (other_seat w.room fit s inside x t ne)
 
   module _ (logs' holds' : List (Letter B)) (c' : Meaning (Letter B)) where
-    -- the moment after
-    abbrev pub told-moment : Moment B
-    told-moment = moment (with_seat w.room s x) logs' holds' c'
+    -- the configuration after
+    abbrev pub told-moment : Configuration B
+    told-moment = configuration_of (with_seat w.room s x) logs' holds' c'
 
     pub at_seat : (P : Box B → Box B → Type 0) → P (box_of w s) (box_of told-moment s) → P ((view w).box s) ((view told-moment).box s)
     at_seat P p = cut_two w.room.count s P (box_of w s) (box_of told-moment s) no_box inside p
@@ -64,20 +64,20 @@ module _ {B : Type 0} (w : Moment B) (fit : Sound w.room) (s : ℕ) (inside : s 
         (λ lt. same_box w told-moment t (other_seat w.room fit s inside x t ne) (same_log t lt ne) (same-hold t lt ne))
 
 -- a seat's docket moves
-module _ {B : Type 0} (w : Moment B) (fit : Sound w.room) (s : ℕ) (inside : s < w.room.count) (event : DocketEvent) (c' : Meaning (Letter B)) where
+module _ {B : Type 0} (w : Configuration B) (fit : RoomInvariant w.room) (s : ℕ) (inside : s < w.room.count) (event : DocketEvent) (c' : Meaning (Letter B)) where
   abbrev x : Seat
-  x = docketed (seat_at w.room s) event
+  x = with_docket_event (seat_at w.room s) event
 
-  pub docketed_kept : Kept w.room.count w.room.quota x
+  pub docketed_kept : SeatInvariant w.room.count w.room.quota x
   docketed_kept = let k = seat_kept w.room fit s (omega (arith, fit.few)) in record { whole = k.whole; within = k.within; nobody = k.nobody; placed = k.placed }
 
-  abbrev pub docket_moment : Moment B
-  docket_moment = moment (with_seat w.room s x) w.logs w.holds c'
+  abbrev pub docket_moment : Configuration B
+  docket_moment = configuration_of (with_seat w.room s x) w.logs w.holds c'
 
   at_s : (P : Box B → Box B → Type 0) → P (box_of w s) (box_of docket_moment s) → P ((view w).box s) ((view docket_moment).box s)
   at_s = at_seat w fit s inside x w.logs w.holds c'
 
-  pub docket_moves : (was is : DocketState) → (seat_at w.room s).docket ≡ was → moved (seat_at w.room s).docket event ≡ is
+  pub docket_moves : (was is : DocketState) → (seat_at w.room s).docket ≡ was → docket_after (seat_at w.room s).docket event ≡ is
       → MovesDocket was is s (view w) (view docket_moment)
   docket_moves was is before after =
       let told = told_seat w.room fit s inside x in

@@ -1,4 +1,4 @@
 pub mod Traces
-pub mod Worked
+pub mod Reachability
 pub mod Drawing
-pub mod Keeps
+pub mod Guarantees

@@ -1,14 +1,14 @@
 // The theorem about rooms, for letters of any body and every kind of sheet that keeps the law.
 ghost use Rattle.std.specs.Prelude.{◌≡◌, true};
-ghost use Rattle.lives.specs.Keeps.{AlwaysKeeps};
+ghost use Rattle.lives.specs.Guarantees.{AlwaysGuaranteed};
 
 use sheets::sheet::Sheet;
 
-// Whether a room that was worked from its opening on, by any steps with any answers, keeps causal order, complete delivery
+// Whether a room that is reachable from its opening, by any steps with any answers, has causal order, complete delivery
 // and convergence. It always does.
-pub fn worked_rooms_keep<K: Sheet>() -> bool
+pub fn guarantees_hold<K: Sheet>() -> bool
     ensures answer { result ≡ true }
-    ensures keeps { AlwaysKeeps K.Sheet.kind }
+    ensures guarantees { AlwaysGuaranteed K.Sheet.kind }
 {
     true
 }

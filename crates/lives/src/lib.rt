@@ -2,5 +2,5 @@
 #![tactic(auto)]
 
 pub mod laws;
-pub mod moves;
-pub mod reply;
+pub mod operation;
+pub mod response;

@@ -5,26 +5,26 @@ use Rattle.std.specs.Result.{OnErr}
 use Rattle.std.proofs.lemmas.List.{get_or_append_left, get_or-append_right, map-append, length-map}
 use Rattle.std.proofs.lemmas.Bool.{eq-eqb, and_from, cases_lt}
 use Rattle.letters.specs.declared.refusal.Refusal.{Refusal}
-use Rattle.letters.specs.Refusals.{Reason, plain, told}
+use Rattle.letters.specs.Refusals.{Reason, as_answer, plain}
 use Rattle.carriers.specs.Meaning.{Meaning, PutOn, Drawn, waits_at, put_answer, PutLeaves, draw_answer, DrawLeaves}
 use Rattle.carriers.proofs.Decisions.{put_ok, draw_ok, draw_no_seat, draw_no_place, put_accepted, accepted_put, draw_accepted, accepted_draw, draw_refused, refused_draw}
 use Rattle.carriers.proofs.Gained.{gains_append}
 use Rattle.carriers.proofs.Removed.{removed_left, removed_right}
 use Rattle.pair.specs.Pairs.{DrawsOne, joined, both}
-use Rattle.pair.specs.PairLaws.{both_level}
+use Rattle.pair.specs.PairLemmas.{both_level}
 
 -- no answer both accepts and refuses
 no_yes : {w : Reason} {X : Type 0} → ◌≡◌ {A = Result (Unit {0}) Reason} (Err w) (Ok tt) → X
 no_yes e = let z : ◌≡◌ {A = ℕ} 0 1 = cc in absurd (omega arith)
 
 -- what holds of the first's put, which was accepted, and of the second's holds of both where the second's was
-pub once_both : (r₁ r₂ : Result (Unit {0}) Refusal) (P Q : Type 0) → told (λ u. u) r₁ ≡ Ok tt → OnOk r₁ P → OnOk r₂ Q → OnOk r₂ (P × Q)
+pub once_both : (r₁ r₂ : Result (Unit {0}) Refusal) (P Q : Type 0) → as_answer (λ u. u) r₁ ≡ Ok tt → OnOk r₁ P → OnOk r₂ Q → OnOk r₂ (P × Q)
 once_both (Ok u) (Ok v) P Q took p q = (p, q)
 once_both (Ok u) (Err why) P Q took p q = tt
 once_both (Err why) r₂ P Q took p q = no_yes took
 
 -- nothing is to show of a refusal where the answer accepts
-pub on_no : (r : Result (Unit {0}) Refusal) (P : Type 0) → told (λ u. u) r ≡ Ok tt → OnErr r P
+pub on_no : (r : Result (Unit {0}) Refusal) (P : Type 0) → as_answer (λ u. u) r ≡ Ok tt → OnErr r P
 on_no (Ok u) P took = tt
 on_no (Err why) P took = no_yes took
 
@@ -32,8 +32,8 @@ module _ {L : Type 0} where
   -- a put that both take
   pub put_joined : (m n m' n' : Meaning L) (p : ℕ) (x : L) (r₁ r₂ : Result (Unit {0}) Refusal) →
       m.seats ≡ n.seats → p < m.seats → m.fits p ≡ true → n.fits p ≡ true →
-      told (λ u. u) r₁ ≡ put_answer m p → PutLeaves r₁ m p x m' → told (λ u. u) r₂ ≡ put_answer n p → PutLeaves r₂ n p x n' →
-      (told (λ u. u) r₂ ≡ put_answer (both m n) p) × PutLeaves r₂ (both m n) p x (both m' n') × PutLeaves r₂ m p x m'
+      as_answer (λ u. u) r₁ ≡ put_answer m p → PutLeaves r₁ m p x m' → as_answer (λ u. u) r₂ ≡ put_answer n p → PutLeaves r₂ n p x n' →
+      (as_answer (λ u. u) r₂ ≡ put_answer (both m n) p) × PutLeaves r₂ (both m n) p x (both m' n') × PutLeaves r₂ m p x m'
   put_joined m n m' n' p x r₁ r₂ s h f₁ f₂ a₁ l₁ a₂ l₂ =
       let h₂ : p < n.seats = omega arith in
       let yes₂ = put_ok n p h₂ f₂ in
@@ -64,7 +64,7 @@ module _ {L : Type 0} where
   module _ {P : Type 0} (see : L → P) where
     -- what a draw answers and leaves
     abbrev pub Draws : Result (Unit {0}) Refusal → Meaning L → ℕ → ℕ → Meaning L → P → P → Type 0
-    Draws r m seat place m' x y = (told (λ u. u) r ≡ draw_answer m seat place) × DrawLeaves see r m seat place m' x y
+    Draws r m seat place m' x y = (as_answer (λ u. u) r ≡ draw_answer m seat place) × DrawLeaves see r m seat place m' x y
 
     draws_at_both : (m n m' n' : Meaning L) (seat place : ℕ) (x y : P) (r : Result (Unit {0}) Refusal) →
         m.seats ≡ n.seats → m'.seats ≡ n'.seats → Draws r (joined m n) seat place (joined m' n') x y → Draws r (both m n) seat place (both m' n') x y
@@ -96,7 +96,7 @@ module _ {L : Type 0} where
       length-joined = length-append _ _
 
       -- the pair refuses for the reason that one of the two has
-      refuses : (w : Reason) (m' n' : Meaning L) → told (λ u. u) r ≡ Err w → draw_answer (joined m n) seat place ≡ Err w → m' ≡ m → n' ≡ n → y ≡ x → Draws r (both m n) seat place (both m' n') x y
+      refuses : (w : Reason) (m' n' : Meaning L) → as_answer (λ u. u) r ≡ Err w → draw_answer (joined m n) seat place ≡ Err w → m' ≡ m → n' ≡ n → y ≡ x → Draws r (both m n) seat place (both m' n') x y
       refuses w m' n' refused pair-refuses first second lent = (
         refused ∙ sym (ap (λ v. draw_answer v seat place) (both_level m n _ refl (eq-eqb _ _ s)) ∙ pair-refuses),
         refused_draw (both m n) (both m' n') see seat place x y r w refused (ap (λ v. both v n') first ∙ ap (both m) second, lent),
@@ -113,7 +113,7 @@ module _ {L : Type 0} where
           refuses w m n' (d.0 ∙ refused) pair-refuses refl left.0 left.1
 
       -- the pair draws what one of the two draws
-      draws : (m' n' : Meaning L) → told (λ u. u) r ≡ Ok tt → seat < m.seats → place < waits_at (joined m n) seat → m'.seats ≡ n'.seats →
+      draws : (m' n' : Meaning L) → as_answer (λ u. u) r ≡ Ok tt → seat < m.seats → place < waits_at (joined m n) seat → m'.seats ≡ n'.seats →
           Drawn (joined m n) seat place (joined m' n') → y ≡ get_or (map see ((joined m n).waiting seat)) place x → Draws r (both m n) seat place (both m' n') x y
       draws m' n' said in-range more s' done filled = draws_at_both m n m' n' seat place x y r s s'
           (said ∙ sym (draw_ok (joined m n) seat place in-range more), accepted_draw (joined m n) (joined m' n') see seat place x y r said (done, filled))

@@ -3,9 +3,9 @@
 
 ghost use Rattle.std.specs.Prelude.{◌≡◌, Ok, OnOk};
 ghost use Rattle.std.specs.Result.{OnErr};
-ghost use Rattle.letters.specs.Refusals.{told};
+ghost use Rattle.letters.specs.Refusals.{as_answer};
 ghost use Rattle.carriers.specs.Meaning.{draw_answer, put_answer};
-ghost use Rattle.pair.specs.PairLaws.{lawful_both, still_both};
+ghost use Rattle.pair.specs.PairLemmas.{lawful_both, still_both};
 ghost use Rattle.pair.specs.Pairs.{CarrierDraw, CarrierPut, OneDraw, OneRests, Rested, both, pair_answer};
 
 use carriers::carrier::Carrier;
@@ -27,7 +27,7 @@ pub struct Pair<C: Carrier, D: Carrier<Body = C::Body>> {
 impl<C: Carrier, D: Carrier<Body = C::Body>> Pair<C, D> {
     // Whether the two can be a pair: 6 where they have unequal numbers of seats.
     pub fn check(first: &C, second: &D) -> Result<(), Refusal>
-        ensures { told (λ u. u) result ≡ pair_answer (C.Carrier.meaning first.now).seats (D.Carrier.meaning second.now).seats }
+        ensures { as_answer (λ u. u) result ≡ pair_answer (C.Carrier.meaning first.now).seats (D.Carrier.meaning second.now).seats }
     {
         if first.seats() == second.seats() {
             Ok(())
@@ -76,7 +76,7 @@ impl<C: Carrier, D: Carrier<Body = C::Body>> Carrier for Pair<C, D> {
     }
 
     fn put(&mut self, letter: &Letter<C::Body>) -> Result<(), Refusal>
-        ensures answer { told (λ u. u) result ≡ put_answer (⟦<Self as Carrier>⟧.meaning self.old) letter.now.poster }
+        ensures answer { as_answer (λ u. u) result ≡ put_answer (⟦<Self as Carrier>⟧.meaning self.old) letter.now.poster }
         ensures leaves { CarrierPut ⟦<Self as Carrier>⟧ result self.old letter.now self.new }
         ensures once { OnOk result (⟦<Self as Carrier>⟧.puts self.old letter.now self.new) }
         ensures first { CarrierPut C.Carrier result self.old.first letter.now self.new.first }
@@ -96,7 +96,7 @@ impl<C: Carrier, D: Carrier<Body = C::Body>> Carrier for Pair<C, D> {
     }
 
     fn draw(&mut self, seat: u8, place: u32, parts: &mut Parts<C::Body>) -> Result<(), Refusal>
-        ensures answer { told (λ u. u) result ≡ draw_answer (⟦<Self as Carrier>⟧.meaning self.old) seat place }
+        ensures answer { as_answer (λ u. u) result ≡ draw_answer (⟦<Self as Carrier>⟧.meaning self.old) seat place }
         ensures leaves { CarrierDraw ⟦<Self as Carrier>⟧ result self.old seat place self.new parts.old parts.new }
         ensures one { OneDraw C.Carrier D.Carrier result self.old.first self.old.second seat place self.new.first self.new.second }
         ensures asked { OnErr result (OneRests C.Carrier.rests D.Carrier.rests self.old.first self.new.first self.old.second self.new.second) }

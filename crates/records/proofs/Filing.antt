@@ -5,12 +5,12 @@ use Rattle.std.proofs.lemmas.Bool.{cases_lt}
 use Rattle.std.proofs.lemmas.List.{flat_map_more, take-take, take_at, take_all, take_more, take_more_set, length-take-le, drop_at, drop_all, drop-set-lt, drop-drop, length-append, length-drop}
 use Rattle.std.specs.Simd.{first_chunks}
 use Rattle.letters.specs.declared.letter.Letter.{Letter}
-use Rattle.letters.specs.Forms.{Form, Lawful}
+use Rattle.letters.specs.Forms.{Form, LawfulForm}
 use Rattle.letters.specs.Letters.{parts_of}
-use Rattle.letters.specs.Same.{same_letter}
+use Rattle.letters.specs.SameLemmas.{equal_letters}
 use Rattle.records.specs.Buffers.{overlaid}
 use Rattle.records.specs.Files.{begun_records, file_fault, file_of}
-use Rattle.records.specs.Readers.{left}
+use Rattle.records.specs.Readers.{rest_of_file}
 use Rattle.records.specs.Reading.{Begins}
 use Rattle.records.specs.declared.record.TheConstants.{RECORD_SIZE}
 use Rattle.records.specs.Records.{parts_written, record_of, wrong_byte, wrong_front}
@@ -25,7 +25,7 @@ module _ {B : Type 0} (form : Form B) where
 
   -- one record more is loaded
   pub load_more : (bs : List ℕ) (table : List (Letter B)) (i : ℕ) (m : Letter B) → i < length table
-      → record_of form m ≡ take RECORD_SIZE (left bs i) → file_of form (take i table) ≡ take (RECORD_SIZE * i) bs
+      → record_of form m ≡ take RECORD_SIZE (rest_of_file bs i) → file_of form (take i table) ≡ take (RECORD_SIZE * i) bs
       → file_of form (take (i + 1) (set table i m)) ≡ take (RECORD_SIZE * (i + 1)) bs
   load_more bs table i m within is before =
       let f = ap (file_of form) (take_more_set table i m within) ∙ file_more (take i table) m in
@@ -53,7 +53,7 @@ module _ {B : Type 0} (form : Form B) where
       ∙ ap (λ l. (f ++ record_of form m) ++ l) rest
       ∙ ap (λ l. l ++ drop (RECORD_SIZE * (i + 1)) old) (sym (ap (file_of form) one ∙ file_more (take i ms) m))
 
-  module _ (laws : Lawful form) where
+  module _ (laws : LawfulForm form) where
     pub length_file : (ms : List (Letter B)) → length (file_of form ms) ≡ RECORD_SIZE * length ms
     length_file [] = refl
     length_file (m ∷ ms) =
@@ -61,7 +61,7 @@ module _ {B : Type 0} (form : Form B) where
         omega (arith, record_long form laws m, length_file ms)
 
     -- what is left of a file is the file of the letters that are left
-    file_left : (ms : List (Letter B)) (i : ℕ) → left (file_of form ms) i ≡ file_of form (drop i ms)
+    file_left : (ms : List (Letter B)) (i : ℕ) → rest_of_file (file_of form ms) i ≡ file_of form (drop i ms)
     file_left ms zero = refl
     file_left [] (suc i) = drop_all (RECORD_SIZE * suc i) [] (omega arith)
     file_left (m ∷ ms) (suc i) =
@@ -77,7 +77,7 @@ module _ {B : Type 0} (form : Form B) where
       take_at (record_of form m) (file_of form ms) RECORD_SIZE (record_long form laws m),
     )
 
-    right_at : (ms : List (Letter B)) (i : ℕ) → i < length ms → wrong_front form (left (file_of form ms) i) ≡ None
+    right_at : (ms : List (Letter B)) (i : ℕ) → i < length ms → wrong_front form (rest_of_file (file_of form ms) i) ≡ None
     right_at ms i h = ap (wrong_front form) (file_left ms i) ∙ right_front (drop i ms) (omega (arith, length-drop i ms)) where
       right_front : (ks : List (Letter B)) → 0 < length ks → wrong_front form (file_of form ks) ≡ None
       right_front [] h = absurd (omega arith)
@@ -88,12 +88,12 @@ module _ {B : Type 0} (form : Form B) where
     file_right ms =
         let long = length_file ms in
         right_each form (file_of form ms) (begun_records (file_of form ms)) 0
-        (λ k h. let at : 0 + k ≡ k = omega arith in ap (λ i. wrong_front form (left (file_of form ms) i)) at ∙ right_at ms k (omega arith))
+        (λ k h. let at : 0 + k ≡ k = omega arith in ap (λ i. wrong_front form (rest_of_file (file_of form ms) i)) at ∙ right_at ms k (omega arith))
 
     letter_one : (a b : Letter B) → record_of form a ≡ record_of form b → a ≡ b
     letter_one a b e =
         let same = sym (written_back form laws (parts_of a) a.sized) ∙ ap (parts_written form) e ∙ written_back form laws (parts_of b) b.sized in
-        same_letter a b (ap (λ p. p.stamp) same) (ap (λ p. p.poster) same) (ap (λ p. p.body) same)
+        equal_letters a b (ap (λ p. p.stamp) same) (ap (λ p. p.poster) same) (ap (λ p. p.body) same)
 
     -- no two lists of letters have the same file
     pub file_one : (xs ys : List (Letter B)) → length xs ≡ length ys → file_of form xs ≡ file_of form ys → xs ≡ ys
@@ -110,7 +110,7 @@ module _ {B : Type 0} (form : Form B) where
         cc
 
 -- a file cut into records
-pub chunk_at : (k : ℕ) (bs : List ℕ) (i : ℕ) → i < k → get_or (first_chunks RECORD_SIZE k bs) i [] ≡ take RECORD_SIZE (left bs i)
+pub chunk_at : (k : ℕ) (bs : List ℕ) (i : ℕ) → i < k → get_or (first_chunks RECORD_SIZE k bs) i [] ≡ take RECORD_SIZE (rest_of_file bs i)
 chunk_at zero bs i h = absurd (omega arith)
 chunk_at (suc k) bs zero h = refl
 chunk_at (suc k) bs (suc i) h =
@@ -142,7 +142,7 @@ chunk_rest rest piece more is long =
     (λ enough. let one : length piece ≡ RECORD_SIZE = omega arith in sym back ∙ ap (λ n. drop n rest) one)
     (cases_lt (length rest) RECORD_SIZE)
 
-pub chunk_first : {B : Type 0} (form : Form B) (laws : Lawful form) (rest : List ℕ) → wrong_front form (take RECORD_SIZE rest) ≡ wrong_front form rest
+pub chunk_first : {B : Type 0} (form : Form B) (laws : LawfulForm form) (rest : List ℕ) → wrong_front form (take RECORD_SIZE rest) ≡ wrong_front form rest
 chunk_first form laws rest = ⊎_elim
     (λ few. ap (wrong_front form) (take_all RECORD_SIZE rest (omega arith)))
     (λ enough.

@@ -8,12 +8,12 @@ use Rattle.letters.specs.Refusals.{Reason}
 use Rattle.records.specs.declared.fault.Fault.{Fault}
 use Rattle.records.specs.Faults.{fault_reason}
 use Rattle.records.specs.Reading.{parts_left, read_answer}
-use Rattle.records.specs.Readers.{right, wrong, found, left, looked_at}
+use Rattle.records.specs.Readers.{right, wrong, finding_of, rest_of_file, looked_at}
 use Rattle.records.specs.declared.record.TheConstants.{RECORD_SIZE}
 use Rattle.records.specs.Records.{wrong_front}
 
 -- the part of the file that the reader looks at
-pub next_part : (bs : List ℕ) (index : ℕ) → take (length bs - RECORD_SIZE * index) (drop (RECORD_SIZE * index) bs) ≡ left bs index
+pub next_part : (bs : List ℕ) (index : ℕ) → take (length bs - RECORD_SIZE * index) (drop (RECORD_SIZE * index) bs) ≡ rest_of_file bs index
 next_part bs index = take_rest bs (RECORD_SIZE * index)
 
 -- the byte that an answer names
@@ -39,19 +39,19 @@ pub ok_err : {X : Type 0} (x : X) (fault : Fault) → ¬ (Ok x ≡ Err fault)
 ok_err x fault e = let z : ◌≡◌ {A = ℕ} 0 1 = cc in absurd (omega arith)
 
 module _ {B : Type 0} (form : Form B) (bs : List ℕ) where
-  some_found : 0 < length bs → found form bs ≡ looked_at (wrong_front form bs)
+  some_found : 0 < length bs → finding_of form bs ≡ looked_at (wrong_front form bs)
   some_found some = let e : eqb (length bs) 0 ≡ false = ne_eqb (length bs) 0 (λ z. omega arith) in rw e
 
   -- the record is wrong, and the parts are left
   pub found_wrong : (fault : Fault) (old new : Parts B) → 0 < length bs → Err (fault_reason fault) ≡ read_answer (wrong_front form bs)
-      → new ≡ parts_left form bs (wrong_front form bs) old → (found form bs ≡ wrong fault.byte) × (new ≡ old)
+      → new ≡ parts_left form bs (wrong_front form bs) old → (finding_of form bs ≡ wrong fault.byte) × (new ≡ old)
   found_wrong fault old new some is filled =
       let f = answered_wrong fault (wrong_front form bs) is in
       (some_found some ∙ ap looked_at f, filled ∙ ap (λ o. parts_left form bs o old) f)
 
   -- the record is right, and its parts are read
   pub found_right : (old new : Parts B) → 0 < length bs → Ok tt ≡ read_answer (wrong_front form bs)
-      → new ≡ parts_left form bs (wrong_front form bs) old → (found form bs ≡ right) × (new ≡ parts_left form bs None old)
+      → new ≡ parts_left form bs (wrong_front form bs) old → (finding_of form bs ≡ right) × (new ≡ parts_left form bs None old)
   found_right old new some is filled =
       let f = answered_right (wrong_front form bs) is in
       (some_found some ∙ ap looked_at f, filled ∙ ap (λ o. parts_left form bs o old) f)

@@ -3,24 +3,24 @@ use Rattle.std.proofs.Common.{◌≡◌, ℕ, ◌+◌, ◌*◌, ◌/◌, ◌<◌
 use Rattle.std.proofs.lemmas.List.{take-append-drop, length-drop}
 use Rattle.std.proofs.lemmas.Bool.{cases_lt, le-leb}
 use Rattle.letters.specs.declared.letter.Letter.{Letter}
-use Rattle.letters.specs.Forms.{Form, Lawful}
+use Rattle.letters.specs.Forms.{Form, LawfulForm}
 use Rattle.letters.specs.Refusals.{Reason}
 use Rattle.records.specs.Files.{LoadUndoes, Loaded, begun_records, file_fault, file_of, load_answer, load_check}
-use Rattle.records.specs.Readers.{left}
+use Rattle.records.specs.Readers.{rest_of_file}
 use Rattle.records.specs.declared.record.TheConstants.{RECORD_SIZE}
 use Rattle.records.specs.Records.{wrong_byte, wrong_front}
 use Rattle.records.proofs.Faults.{each_right}
 use Rattle.records.proofs.Filing.{file_one, file_right, length_file}
 use Rattle.records.proofs.RoundTrip.{front_right}
 
-module _ {B : Type 0} (form : Form B) (laws : Lawful form) where
+module _ {B : Type 0} (form : Form B) (laws : LawfulForm form) where
   module _ (bs : List ℕ) (right : file_fault form bs ≡ None) where
     -- each record that is begun is whole and right
-    pub record_at : (i : ℕ) → i < begun_records bs → (RECORD_SIZE ≤ length (left bs i)) × (wrong_byte form (take RECORD_SIZE (left bs i)) ≡ None)
+    pub record_at : (i : ℕ) → i < begun_records bs → (RECORD_SIZE ≤ length (rest_of_file bs i)) × (wrong_byte form (take RECORD_SIZE (rest_of_file bs i)) ≡ None)
     record_at i h =
         let at : 0 + i ≡ i = omega arith in
-        front_right form laws (left bs i)
-        (sym (ap (λ k. wrong_front form (left bs k)) at) ∙ each_right form bs (begun_records bs) 0 right i h)
+        front_right form laws (rest_of_file bs i)
+        (sym (ap (λ k. wrong_front form (rest_of_file bs k)) at) ∙ each_right form bs (begun_records bs) 0 right i h)
 
     -- so a file without fault is a whole number of records
     pub whole_file : RECORD_SIZE * (length bs / RECORD_SIZE) ≡ length bs

@@ -8,14 +8,14 @@ use Rattle.letters.specs.declared.letter.Letter.{Letter}
 use Rattle.letters.specs.Checks.{first_failing}
 use Rattle.letters.specs.ChecksLemmas.{failed, fails_at, some_none}
 use Rattle.letters.specs.declared.body.TheConstants.{BODY_SPACE}
-use Rattle.letters.specs.Forms.{FirstWrong, Form, Lawful}
+use Rattle.letters.specs.Forms.{FirstWrong, Form, LawfulForm}
 use Rattle.letters.specs.Letters.{parts_of}
 use Rattle.letters.specs.Numbers.{bytes_of_16, number_16}
 use Rattle.letters.specs.NumbersLemmas.{bytes_of_16_back}
 use Rattle.records.specs.declared.fault.Fault.{Fault}
-use Rattle.records.specs.Faults.{told_fault}
+use Rattle.records.specs.Faults.{fault_as_answer}
 use Rattle.records.specs.Reading.{read_answer}
-use Rattle.records.specs.Naming.{AgreesBefore, FirstWrongByte, Named, turn}
+use Rattle.records.specs.Naming.{AgreesBefore, FirstWrongByte, NamedByte, turn}
 use Rattle.records.specs.Records.{body_part, first_of, is_zero, kind_byte, length_byte, padding, poster_byte, record_of, wrong_byte, wrong_front, wrong_header, zero_byte}
 use Rattle.records.proofs.Entries.{byte_written, number_front}
 use Rattle.records.proofs.Finding.{answered_wrong}
@@ -30,7 +30,7 @@ first_some : (start : ℕ) (a later : Option ℕ) (place : ℕ) → first_of sta
 first_some start None later place e = inr (refl, e)
 first_some start (Some q) later place e = inl (q, refl, cc)
 
-module _ {B : Type 0} (form : Form B) (laws : Lawful form) where
+module _ {B : Type 0} (form : Form B) (laws : LawfulForm form) where
   -- what stands where in a letter's record
   module _ (m : Letter B) where
     abbrev rec : List ℕ
@@ -477,7 +477,7 @@ module _ {B : Type 0} (form : Form B) (laws : Lawful form) where
           (first_some 0 (wrong_header form bs) _ p e)
 
   -- the byte that is named of the record at the front of some bytes
-  pub named : (bs : List ℕ) → ((i : ℕ) → get_or bs i 0 < 256) → (byte : ℕ) → wrong_front form bs ≡ Some byte → Named form bs byte
+  pub named : (bs : List ℕ) → ((i : ℕ) → get_or bs i 0 < 256) → (byte : ℕ) → wrong_front form bs ≡ Some byte → NamedByte form bs byte
   named bs small byte e = record {
     whole = λ enough.
         first_wrong_byte (take RECORD_SIZE bs) (length-take-le RECORD_SIZE bs enough) in_front byte (sym (front_whole form laws bs enough) ∙ e);
@@ -491,6 +491,6 @@ module _ {B : Type 0} (form : Form B) (laws : Lawful form) where
           (cases_lt i RECORD_SIZE)
 
   -- what a read that is refused names
-  pub read_named : (bs : List ℕ) → ((i : ℕ) → get_or bs i 0 < 256) → (r : Result (Unit {0}) Fault) → told_fault r ≡ read_answer (wrong_front form bs)
-      → (fault : Fault) → r ≡ Err fault → Named form bs fault.byte
-  read_named bs small r is fault e = named bs small fault.byte (answered_wrong fault (wrong_front form bs) (sym (ap told_fault e) ∙ is))
+  pub read_named : (bs : List ℕ) → ((i : ℕ) → get_or bs i 0 < 256) → (r : Result (Unit {0}) Fault) → fault_as_answer r ≡ read_answer (wrong_front form bs)
+      → (fault : Fault) → r ≡ Err fault → NamedByte form bs fault.byte
+  read_named bs small r is fault e = named bs small fault.byte (answered_wrong fault (wrong_front form bs) (sym (ap fault_as_answer e) ∙ is))

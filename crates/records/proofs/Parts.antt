@@ -6,7 +6,7 @@ use Rattle.records.specs.declared.record.TheConstants.{BODY_END, BODY_PLACE, KIN
 use Rattle.records.specs.declared.stamps.TheConstants.{STAMP_SIZE}
 use Rattle.letters.specs.Checks.{first_failing}
 use Rattle.letters.specs.declared.body.TheConstants.{BODY_SPACE}
-use Rattle.letters.specs.Forms.{Form, Lawful}
+use Rattle.letters.specs.Forms.{Form, LawfulForm}
 use Rattle.letters.specs.declared.parts.Parts.{Parts}
 use Rattle.letters.specs.Numbers.{padded}
 use Rattle.letters.specs.ChecksLemmas.{each_passes, none_fails}
@@ -38,7 +38,7 @@ module _ {B : Type 0} (form : Form B) (p : Parts B) where
   bs = parts_record form p
 
   -- how long a record is; with the sixteen entries of a stamp, as long as all are
-  pub parts-length : Lawful form → length bs ≡ 2 * length p.stamp.entries + (RECORD_SIZE - STAMP_SIZE)
+  pub parts-length : LawfulForm form → length bs ≡ 2 * length p.stamp.entries + (RECORD_SIZE - STAMP_SIZE)
   parts-length laws =
       let short : length body ≤ BODY_SPACE = laws.short (form.kind p.body) (length body) (laws.length_right p.body) in
       let pad = length-append body (replicate {A = ℕ} (BODY_SPACE - length body) 0) in

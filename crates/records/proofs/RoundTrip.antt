@@ -7,7 +7,7 @@ use Rattle.records.specs.declared.stamps.TheConstants.{STAMP_SIZE}
 use Rattle.letters.specs.declared.letter.Letter.{Letter}
 use Rattle.letters.specs.Checks.{first_failing}
 use Rattle.letters.specs.declared.body.TheConstants.{BODY_SPACE}
-use Rattle.letters.specs.Forms.{Form, Lawful}
+use Rattle.letters.specs.Forms.{Form, LawfulForm}
 use Rattle.letters.specs.declared.parts.Parts.{Parts}
 use Rattle.letters.specs.Letters.{parts, parts_of, letter_check}
 use Rattle.letters.specs.Numbers.{number_16}
@@ -15,8 +15,8 @@ use Rattle.letters.specs.ChecksLemmas.{passed, some_none}
 use Rattle.letters.proofs.Passing.{letter_passes}
 use Rattle.records.specs.Records.{body_part, first_of, is_zero, kind_byte, length_byte, padding, parts_record, parts_written, poster_byte, record_of, stamp_bytes, stamp_of, wrong_byte, wrong_front, wrong_header}
 use Rattle.records.specs.declared.fault.Fault.{Fault}
-use Rattle.records.specs.Faults.{told_fault}
-use Rattle.records.specs.Reading.{Begins, LeftBy, Undoes, parts_left, read_answer}
+use Rattle.records.specs.Faults.{fault_as_answer}
+use Rattle.records.specs.Reading.{Begins, PartsAfter, Undoes, parts_left, read_answer}
 use Rattle.records.proofs.Entries.{paired_written, number_front}
 use Rattle.records.proofs.Headers.{RightHeader, header_right, right_header}
 use Rattle.records.proofs.Parts.{blank_is, body_is, kind_is, length_is, padding_is, parts-length, poster_is, record_back, stamp_is, zeros_right}
@@ -29,11 +29,11 @@ accepted : (f : Option ℕ) → read_answer f ≡ Ok tt → f ≡ None
 accepted None e = refl
 accepted (Some place) e = let z : ◌≡◌ {A = ℕ} 0 1 = cc in absurd (omega arith)
 
-read_ok : (r : Result (Unit {0}) Fault) → told_fault r ≡ Ok tt → r ≡ Ok tt
+read_ok : (r : Result (Unit {0}) Fault) → fault_as_answer r ≡ Ok tt → r ≡ Ok tt
 read_ok (Ok done) e = refl
 read_ok (Err fault) e = let z : ◌≡◌ {A = ℕ} 0 1 = cc in absurd (omega arith)
 
-module _ {B : Type 0} (form : Form B) (laws : Lawful form) where
+module _ {B : Type 0} (form : Form B) (laws : LawfulForm form) where
   -- a letter's record is as long as all are
   pub record_long : (m : Letter B) → length (record_of form m) ≡ RECORD_SIZE
   record_long m = omega (arith, parts-length form (parts_of m) laws, m.sized)
@@ -154,16 +154,16 @@ module _ {B : Type 0} (form : Form B) (laws : Lawful form) where
     only = λ a. let k = u.only (back a) in (k.0, k.1, subst (λ l. Begins form l (parts_of k.0)) same k.2);
   }
 
-  left_none : (bs : List ℕ) (old new : Parts B) (f : Option ℕ) → LeftBy form bs old new f → f ≡ None → parts_record form new ≡ bs
+  left_none : (bs : List ℕ) (old new : Parts B) (f : Option ℕ) → PartsAfter form bs old new f → f ≡ None → parts_record form new ≡ bs
   left_none bs old new None left e = left
   left_none bs old new (Some place) left e = some_none place e
 
-  left-parts : (bs : List ℕ) (old new : Parts B) (f : Option ℕ) → LeftBy form (take RECORD_SIZE bs) old new f
+  left-parts : (bs : List ℕ) (old new : Parts B) (f : Option ℕ) → PartsAfter form (take RECORD_SIZE bs) old new f
       → (f ≡ None → new ≡ parts_written form (take RECORD_SIZE bs)) → new ≡ parts_left form bs f old
   left-parts bs old new None left written = written refl
   left-parts bs old new (Some place) left written = left
 
-  module _ (bs : List ℕ) (old new : Parts B) (left : LeftBy form (take RECORD_SIZE bs) old new (wrong_front form bs)) where
+  module _ (bs : List ℕ) (old new : Parts B) (left : PartsAfter form (take RECORD_SIZE bs) old new (wrong_front form bs)) where
     pub left_undoes : Undoes form bs (wrong_front form bs ≡ None) new
     left_undoes = undoes bs new (left_none (take RECORD_SIZE bs) old new (wrong_front form bs) left)
 
@@ -173,6 +173,6 @@ module _ {B : Type 0} (form : Form B) (laws : Lawful form) where
         (λ e. let found = left_undoes.only e in found.1 ∙ sym (begun bs found.0 found.2).1)
 
     -- the same, by what a read answers
-    pub read_undoes : (r : Result (Unit {0}) Fault) → told_fault r ≡ read_answer (wrong_front form bs) → Undoes form bs (r ≡ Ok tt) new
+    pub read_undoes : (r : Result (Unit {0}) Fault) → fault_as_answer r ≡ read_answer (wrong_front form bs) → Undoes form bs (r ≡ Ok tt) new
     read_undoes r is =
-        undoes_as bs bs new refl (λ e. read_ok r (is ∙ ap read_answer e)) (λ e. accepted (wrong_front form bs) (sym is ∙ ap told_fault e)) left_undoes
+        undoes_as bs bs new refl (λ e. read_ok r (is ∙ ap read_answer e)) (λ e. accepted (wrong_front form bs) (sym is ∙ ap fault_as_answer e)) left_undoes

@@ -12,6 +12,6 @@ abbrev pub fault_reason : Fault → Reason
 fault_reason fault = bad_record fault.index fault.byte
 
 -- an answer as its caller sees it
-abbrev pub told_fault : {X : Type 0} → Result X Fault → Result X Reason
-told_fault (Ok x) = Ok x
-told_fault (Err fault) = Err (fault_reason fault)
+abbrev pub fault_as_answer : {X : Type 0} → Result X Fault → Result X Reason
+fault_as_answer (Ok x) = Ok x
+fault_as_answer (Err fault) = Err (fault_reason fault)

@@ -8,7 +8,7 @@ use Rattle.records.specs.declared.fault.Fault.{Fault}
 use Rattle.records.specs.declared.load_refusal.LoadRefusal.{LoadRefusal}
 use Rattle.records.specs.declared.load_refusal.LoadRefusal.TheVariants.{Bad, TooShort}
 use Rattle.records.specs.Faults.{fault_reason}
-use Rattle.records.specs.Readers.{left}
+use Rattle.records.specs.Readers.{rest_of_file}
 use Rattle.records.specs.declared.record.TheConstants.{RECORD_SIZE}
 use Rattle.records.specs.Records.{record_of, wrong_front}
 
@@ -17,9 +17,9 @@ abbrev pub load_reason : LoadRefusal → Reason
 load_reason (Bad fault) = fault_reason fault
 load_reason TooShort = plain 5
 
-abbrev pub told_load : {X : Type 0} → Result X LoadRefusal → Result X Reason
-told_load (Ok x) = Ok x
-told_load (Err why) = Err (load_reason why)
+abbrev pub load_as_answer : {X : Type 0} → Result X LoadRefusal → Result X Reason
+load_as_answer (Ok x) = Ok x
+load_as_answer (Err why) = Err (load_reason why)
 
 -- how many records a file begins, the last of which may be cut short
 abbrev pub begun_records : List ℕ → ℕ
@@ -47,7 +47,7 @@ module _ {B : Type 0} (form : Form B) where
   -- the first fault among some records from an index on
   abbrev pub fault_among : List ℕ → ℕ → ℕ → Option Fault
   fault_among bs index zero = None
-  fault_among bs index (suc n) = fault_or index (wrong_front form (left bs index)) (fault_among bs (index + 1) n)
+  fault_among bs index (suc n) = fault_or index (wrong_front form (rest_of_file bs index)) (fault_among bs (index + 1) n)
 
   -- the first fault of a file
   abbrev pub file_fault : List ℕ → Option Fault
@@ -69,10 +69,10 @@ module _ {B : Type 0} (form : Form B) where
 
   -- what loading a file does: its answer, the table that it leaves, and that it undoes saving
   pub record FileLoaded (bs : List ℕ) (old new : List (Letter B)) (r : Result ℕ LoadRefusal) : Type 0 where
-    pub answer : told_load r ≡ load_answer bs (length old)
-    pub table : Loaded bs old new (told_load r)
-    pub undoes : LoadUndoes bs old new (told_load r)
+    pub answer : load_as_answer r ≡ load_answer bs (length old)
+    pub table : Loaded bs old new (load_as_answer r)
+    pub undoes : LoadUndoes bs old new (load_as_answer r)
 
   -- what saving leaves in the buffer: the file at its front
-  abbrev pub saved : List (Letter B) → List ℕ → List ℕ
-  saved ms old = cond (nat_le (RECORD_SIZE * length ms) (length old)) (file_of ms ++ drop (RECORD_SIZE * length ms) old) old
+  abbrev pub buffer_with_file : List (Letter B) → List ℕ → List ℕ
+  buffer_with_file ms old = cond (nat_le (RECORD_SIZE * length ms) (length old)) (file_of ms ++ drop (RECORD_SIZE * length ms) old) old

@@ -30,6 +30,6 @@ module _ {B : Type 0} (form : Form B) where
     pub never : (m : Letter B) → ¬ (AgreesBefore bs (turn bs byte + 1) m)
 
   -- the byte that is named where the record at the front of some bytes is refused; where they are too few, how many there are
-  pub record Named (bs : List ℕ) (byte : ℕ) : Type 0 where
+  pub record NamedByte (bs : List ℕ) (byte : ℕ) : Type 0 where
     pub whole : RECORD_SIZE ≤ length bs → FirstWrongByte (take RECORD_SIZE bs) byte
     pub short : length bs < RECORD_SIZE → byte ≡ length bs

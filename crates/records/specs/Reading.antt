@@ -6,8 +6,8 @@ use Rattle.letters.specs.declared.parts.Parts.{Parts}
 use Rattle.letters.specs.Letters.{parts_of}
 use Rattle.letters.specs.Refusals.{Reason}
 use Rattle.records.specs.declared.fault.Fault.{Fault}
-use Rattle.records.specs.Faults.{bad_record, told_fault}
-use Rattle.records.specs.Naming.{Named}
+use Rattle.records.specs.Faults.{bad_record, fault_as_answer}
+use Rattle.records.specs.Naming.{NamedByte}
 use Rattle.records.specs.declared.record.TheConstants.{RECORD_SIZE}
 use Rattle.records.specs.Records.{parts_record, parts_written, wrong_front}
 
@@ -23,9 +23,9 @@ module _ {B : Type 0} (form : Form B) where
   parts_left bs (Some place) old = old
 
   -- the same for a whole record: parts of which it is the record, or the parts that were there
-  abbrev pub LeftBy : List ℕ → Parts B → Parts B → Option ℕ → Type 0
-  LeftBy bs old new None = parts_record form new ≡ bs
-  LeftBy bs old new (Some place) = new ≡ old
+  abbrev pub PartsAfter : List ℕ → Parts B → Parts B → Option ℕ → Type 0
+  PartsAfter bs old new None = parts_record form new ≡ bs
+  PartsAfter bs old new (Some place) = new ≡ old
 
   -- some bytes begin with the record of these parts
   abbrev pub Begins : List ℕ → Parts B → Type 0
@@ -40,7 +40,7 @@ module _ {B : Type 0} (form : Form B) where
   -- what reading the record at the front of some bytes does: its answer, the parts that it leaves, that it undoes writing, and
   -- what it means that a byte is named
   pub record RecordRead (bs : List ℕ) (old new : Parts B) (r : Result (Unit {0}) Fault) : Type 0 where
-    pub answer : told_fault r ≡ read_answer (wrong_front form bs)
+    pub answer : fault_as_answer r ≡ read_answer (wrong_front form bs)
     pub filled : new ≡ parts_left bs (wrong_front form bs) old
     pub undoes : Undoes bs (r ≡ Ok tt) new
-    pub named : (fault : Fault) → r ≡ Err fault → Named form bs fault.byte
+    pub named : (fault : Fault) → r ≡ Err fault → NamedByte form bs fault.byte

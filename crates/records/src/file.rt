@@ -1,7 +1,7 @@
 // Whole files of letters: into a table and back.
 ghost use Rattle.std.specs.Prelude.{◌≡◌, ◌*◌, ◌≤◌, ◌++◌, length, drop, None, Ok};
-ghost use Rattle.letters.specs.Refusals.{told};
-ghost use Rattle.records.specs.Files.{FileLoaded, Loaded, file_fault, file_of, save_answer, saved};
+ghost use Rattle.letters.specs.Refusals.{as_answer};
+ghost use Rattle.records.specs.Files.{FileLoaded, Loaded, buffer_with_file, file_fault, file_of, save_answer};
 
 use crate::bytes::put;
 use crate::fault::Fault;
@@ -55,8 +55,8 @@ pub fn load<B: Body>(bytes: &[u8], table: &mut [Letter<B>]) -> Result<usize, Loa
 // Writes the letters' file to the front of a buffer and answers how many bytes it takes.
 // A buffer with fewer is refused with 5 and stays as it was.
 pub fn save<B: Body>(letters: &[Letter<B>], out: &mut [u8]) -> Result<usize, Refusal>
-    ensures answer { told (λ n. n) result ≡ save_answer (length letters.now) (length out.old) }
-    ensures buffer { out.new ≡ saved B.form letters.now out.old }
+    ensures answer { as_answer (λ n. n) result ≡ save_answer (length letters.now) (length out.old) }
+    ensures buffer { out.new ≡ buffer_with_file B.form letters.now out.old }
 {
     if out.len() / RECORD_SIZE < letters.len() {
         return Err(Refusal::TooShort);

@@ -2,8 +2,8 @@
 ghost use Rattle.std.specs.Prelude.{◌≡◌, ◌≤◌, not, ◌++◌, take, drop, None};
 ghost use Rattle.std.specs.List.{position};
 ghost use Rattle.letters.specs.Checks.{first_failing};
-ghost use Rattle.records.specs.Faults.{told_fault};
-ghost use Rattle.records.specs.Reading.{LeftBy, RecordRead, read_answer};
+ghost use Rattle.records.specs.Faults.{fault_as_answer};
+ghost use Rattle.records.specs.Reading.{PartsAfter, RecordRead, read_answer};
 ghost use Rattle.records.specs.Records.{body_part, is_zero, kind_byte, parts_record, record_of, wrong_byte, wrong_front, wrong_header};
 
 use crate::bytes::{number_at, put};
@@ -69,8 +69,8 @@ pub fn read_record<B: Body>(bytes: &[u8], parts: &mut Parts<B>) -> Result<(), Fa
 
 // The same for a whole record: checks first, then fills.
 fn read_whole<B: Body>(bytes: &[u8; RECORD_SIZE], parts: &mut Parts<B>) -> Result<(), Fault>
-    ensures answer { told_fault result ≡ read_answer (wrong_byte B.form bytes.now) }
-    ensures left { LeftBy B.form bytes.now parts.old parts.new (wrong_byte B.form bytes.now) }
+    ensures answer { fault_as_answer result ≡ read_answer (wrong_byte B.form bytes.now) }
+    ensures left { PartsAfter B.form bytes.now parts.old parts.new (wrong_byte B.form bytes.now) }
 {
     if let Some(byte) = wrong_byte::<B>(bytes) {
         return Err(Fault { index: 0, byte });

@@ -13,8 +13,8 @@ use Rattle.seats.specs.declared.seat.Seat.{Seat}
 use Rattle.seats.specs.declared.seat.DocketEvent.TheVariants.{Post}
 use Rattle.seats.specs.Rooms.{RoomState}
 use Rattle.seats.specs.Seats.{allows, blank}
-use Rattle.rooms.specs.Drafts.{quiet}
-use Rattle.rooms.specs.Reading.{all_clear}
+use Rattle.rooms.specs.Drafts.{no_letter_waits}
+use Rattle.rooms.specs.RoomReading.{all_clear}
 
 -- a test of each of the first elements is a test of each place below
 all_first : {X : Type 0} (test : X → Bool) (here : ℕ → Bool) (xs : List X) (d : X) → ((k : ℕ) → k < length xs → test (get_or xs k d) ≡ here k)
@@ -34,14 +34,14 @@ module _ {L : Type 0} (c : Meaning L) (n : ℕ) where
   abbrev silent : ℕ → Bool
   silent s = eqb (waits_at c s) 0
 
-  pub quiet_is : list_all (λ s. eqb (waits_at c s) 0) (range_with_len 0 n) ≡ quiet c n
-  unfolding quiet
+  pub quiet_is : list_all (λ s. eqb (waits_at c s) 0) (range_with_len 0 n) ≡ no_letter_waits c n
+  unfolding no_letter_waits
   quiet_is =
       let seats = range_with_len 0 n in
       let size = length-range_with_len 0 n in
       ap (list_all silent) (sym (take_all n seats (omega arith)))
       ∙ all_first silent silent seats 0 (λ k lt. ap silent (get_or-range_with_len 0 n k 0 (omega arith) ∙ zero-add k)) n (omega arith)
 
-  pub decides_quiet : Decides (quiet c n) ((s : ℕ) → s < n → waits_at c s ≡ 0)
-  unfolding quiet
+  pub decides_quiet : Decides (no_letter_waits c n) ((s : ℕ) → s < n → waits_at c s ≡ 0)
+  unfolding no_letter_waits
   decides_quiet = decides_each _ (λ s. waits_at c s ≡ 0) (λ s. Decides-eqb (waits_at c s) 0) n

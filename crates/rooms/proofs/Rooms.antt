@@ -1,10 +1,10 @@
 -- A room by its state: what it keeps to, and what holds where nothing has happened.
-use Rattle.seats.specs.Keeping.{Sound}
+use Rattle.seats.specs.Invariants.{RoomInvariant}
 use Rattle.rooms.specs.declared.room.Room.{Room}
 use Rattle.rooms.specs.States.{state}
 
 -- the facts of an open room, of its state
-pub sound : (r : Room) → Sound (state r)
+pub sound : (r : Room) → RoomInvariant (state r)
 sound r = record {
   some = r.some;
   few = r.terms.few;

@@ -9,7 +9,7 @@ use Rattle.letters.specs.Names.{Name}
 use Rattle.letters.specs.Refusals.{Reason}
 use Rattle.letters.proofs.Passing.{letter_passes}
 use Rattle.carriers.specs.Meaning.{Meaning, draw_answer}
-use Rattle.seats.specs.Outcomes.{Take, Takes, Taking, carrier_check, follows, take_check}
+use Rattle.seats.specs.Outcomes.{TakeAccepted, TakeKind, TakeLeaves, answer_then, carrier_check, take_check}
 use Rattle.seats.specs.Rooms.{RoomState}
 
 -- a letter that is drawn by its parts
@@ -25,8 +25,8 @@ module _ {B : Type 0} (c : Meaning (Letter B)) (s place : ℕ) (spare : Letter B
   drawn_can_be = ap letter_check drawn_parts ∙ letter_passes (get_or (c.waiting s) place spare)
 
 -- an accepted take, put together
-pub took : {B : Type 0} (st : RoomState) (logs : ℕ) (holds : List (Letter B)) (c : Meaning (Letter B)) (s place : ℕ) (r : Result (Taking × Name) Reason) (st' : RoomState) (holds' : List (Letter B)) (c' : Meaning (Letter B))
-    → Ok tt ≡ carrier_check st logs (length holds) c.seats → Ok tt ≡ draw_answer c s place → Takes st holds c s place r st' holds' c'
-    → Take (take_check st logs (length holds) c s place) st holds c s place r st' holds' c'
+pub took : {B : Type 0} (st : RoomState) (logs : ℕ) (holds : List (Letter B)) (c : Meaning (Letter B)) (s place : ℕ) (r : Result (TakeKind × Name) Reason) (st' : RoomState) (holds' : List (Letter B)) (c' : Meaning (Letter B))
+    → Ok tt ≡ carrier_check st logs (length holds) c.seats → Ok tt ≡ draw_answer c s place → TakeAccepted st holds c s place r st' holds' c'
+    → TakeLeaves (take_check st logs (length holds) c s place) st holds c s place r st' holds' c'
 took st logs holds c s place r st' holds' c' can drawn t =
-    subst (λ k. Take k st holds c s place r st' holds' c') (drawn ∙ ap (λ k. follows k (draw_answer c s place)) can) t
+    subst (λ k. TakeLeaves k st holds c s place r st' holds' c') (drawn ∙ ap (λ k. answer_then k (draw_answer c s place)) can) t

@@ -6,18 +6,18 @@ use Rattle.letters.specs.Names.{Name}
 use Rattle.letters.specs.Order.{Ready}
 use Rattle.letters.specs.Refusals.{Reason, plain}
 use Rattle.carriers.specs.Meaning.{Drawn, Meaning, draw_answer}
-use Rattle.seats.specs.declared.slip.Slip.{Slip}
-use Rattle.seats.specs.Outcomes.{DrawRests, PutsOnce, after, carrier_check, posted_room}
+use Rattle.seats.specs.declared.docket_id.DocketId.{DocketId}
+use Rattle.seats.specs.Outcomes.{DrawRests, PutsOnce, after_answer, carrier_check, room_with_post}
 use Rattle.seats.specs.Rooms.{RoomState, hold_of, seat_at}
 use Rattle.seats.specs.Scans.{FirstSuch}
 use Rattle.seats.specs.Seats.{clock_at}
-use Rattle.lives.specs.declared.moves.Move.{Move}
-use Rattle.lives.specs.declared.moves.Move.TheVariants as moves
-use Rattle.lives.specs.Worked.{Moment, letter_at, send_at}
+use Rattle.lives.specs.declared.operation.Operation.{Operation}
+use Rattle.lives.specs.declared.operation.Operation.TheVariants as operations
+use Rattle.lives.specs.Reachability.{Configuration, letter_at, send_at}
 
 -- the room after a post
-abbrev pub post_room : RoomState → Result Slip Reason → ℕ → RoomState
-post_room st answer s = after answer (λ d. posted_room st s) st
+abbrev pub post_room : RoomState → Result DocketId Reason → ℕ → RoomState
+post_room st answer s = after_answer answer (λ d. room_with_post st s) st
 
 -- a letter that is taken off a carrier stood at its place there; where the draw is refused, the carrier is as it was
 abbrev pub Draws : {L E : Type 0} → Result L E → Meaning L → ℕ → ℕ → Meaning L → Type 0
@@ -27,13 +27,13 @@ Draws (Err why) c s place c' = c' ≡ c
 -- what a step does to the carrier itself, C, of which `puts` says what one put does, and `rests` what a refusal of its own leaves:
 -- a send puts the docket's letter once, or leaves the carrier as it was where there is none to put; a take that is refused before
 -- it draws leaves the carrier as it was; where the carrier itself refuses, it rests; no other step touches it
-abbrev pub Carried : {B C : Type 0} → (C → Letter B → C → Type 0) → (C → C → Type 0) → Move B Slip → Moment B → C → C → Type 0
-Carried puts rests (moves.Post s body) w c c' = c' ≡ c
-Carried puts rests (moves.Send d) w c c' = PutsOnce puts rests (letter_at w d) (send_at w d) c c'
-Carried puts rests (moves.Park d) w c c' = c' ≡ c
-Carried puts rests (moves.Collect s) w c c' = c' ≡ c
-Carried puts rests (moves.Take s place) w c c' = DrawRests rests (carrier_check w.room (length w.logs) (length w.holds) w.carrier.seats) (draw_answer w.carrier s place) c c'
-Carried puts rests (moves.Show s) w c c' = c' ≡ c
+abbrev pub CarrierStep : {B C : Type 0} → (C → Letter B → C → Type 0) → (C → C → Type 0) → Operation B DocketId → Configuration B → C → C → Type 0
+CarrierStep puts rests (operations.Post s body) w c c' = c' ≡ c
+CarrierStep puts rests (operations.Send d) w c c' = PutsOnce puts rests (letter_at w d) (send_at w d) c c'
+CarrierStep puts rests (operations.Park d) w c c' = c' ≡ c
+CarrierStep puts rests (operations.Collect s) w c c' = c' ≡ c
+CarrierStep puts rests (operations.Take s place) w c c' = DrawRests rests (carrier_check w.room (length w.logs) (length w.holds) w.carrier.seats) (draw_answer w.carrier s place) c c'
+CarrierStep puts rests (operations.Show s) w c c' = c' ≡ c
 
 -- the first letter of the hold that is ready at the seat, with its place; or none is
 abbrev pub FirstHeldReady : {B : Type 0} → RoomState → List (Letter B) → ℕ → Option (ℕ × Letter B) → Type 0

@@ -1,8 +1,8 @@
 pub mod States
 pub mod Calls
 pub mod Serving
-pub mod Working
-pub mod Reading
+pub mod WithCarrier
+pub mod RoomReading
 pub mod Drafts
 pub mod Running
 pub mod Asked

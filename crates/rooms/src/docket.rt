@@ -1,9 +1,9 @@
 // The docket of a posted letter.
 ghost use Rattle.std.specs.Prelude.{◌≡◌};
-ghost use Rattle.rooms.specs.States.{slip};
+ghost use Rattle.rooms.specs.States.{id_of};
 
 use letters::refusal::Refusal;
-use seats::slip::Slip;
+use seats::docket_id::DocketId;
 
 // The right to send one posted letter. It is not Drop: a docket is sent or parked, never let fall.
 pub struct Docket {
@@ -41,11 +41,11 @@ impl Docket {
     }
 
     // The room, the seat and the number, which are no docket by themselves.
-    pub fn slip(&self) -> Slip
-        ensures { result ≡ slip self.now }
+    pub fn id(&self) -> DocketId
+        ensures { result ≡ id_of self.now }
     {
         let Docket { room, seat, number } = self;
-        Slip {
+        DocketId {
             room: *room,
             seat: *seat,
             number: *number,
@@ -53,18 +53,18 @@ impl Docket {
     }
 
     // The docket of these numbers. A public `From` would let any caller make a docket.
-    pub(crate) fn of(numbers: Slip) -> Docket
-        ensures { slip result ≡ numbers }
+    pub(crate) fn of(numbers: DocketId) -> Docket
+        ensures { id_of result ≡ numbers }
     {
-        let Slip { room, seat, number } = numbers;
+        let DocketId { room, seat, number } = numbers;
         Docket { room, seat, number }
     }
 
     // Its numbers, where it is spent. A public `From` would let any caller be rid of a docket unspent.
-    pub(crate) fn into_slip(self) -> Slip
-        ensures { result ≡ slip self }
+    pub(crate) fn into_id(self) -> DocketId
+        ensures { result ≡ id_of self }
     {
         let Docket { room, seat, number } = self;
-        Slip { room, seat, number }
+        DocketId { room, seat, number }
     }
 }

@@ -3,7 +3,7 @@ use crate::terms::Terms;
 
 mod opening;
 
-// What is settled of a room before it opens; boxes can still be enrolled.
+// What is fixed of a room before it opens; boxes can still be enrolled.
 #[derive(Drop)]
 pub struct Draft {
     terms: Terms,

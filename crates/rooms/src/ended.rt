@@ -1,7 +1,7 @@
 // The end of a list of steps.
 ghost use Rattle.std.specs.Prelude.{◌≡◌, ℕ};
 ghost use Rattle.seats.specs.Rooms.{seat_at};
-ghost use Rattle.rooms.specs.Handing.{SameTerms, dockets_left, dockets_out, parked_at};
+ghost use Rattle.rooms.specs.Handing.{SameTerms, dockets_left, dockets_out, seat_after_parking};
 ghost use Rattle.rooms.specs.States.{state};
 
 use crate::out_dockets::OutDockets;
@@ -18,7 +18,7 @@ pub struct Ended {
 impl Ended {
     // Parks each docket, and answers the room.
     pub fn park_all(self) -> Room
-        ensures seats { (s : ℕ) → seat_at (state result) s ≡ parked_at (state self.room) s }
+        ensures seats { (s : ℕ) → seat_at (state result) s ≡ seat_after_parking (state self.room) s }
         ensures terms { SameTerms (state self.room) (state result) }
     {
         let Ended {

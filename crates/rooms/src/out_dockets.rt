@@ -1,18 +1,18 @@
 // The dockets that are out when a list of steps ends.
 ghost use Rattle.std.specs.Prelude.{◌≡◌};
 ghost use Rattle.std.specs.Option.{option_map};
-ghost use Rattle.rooms.specs.Handing.{dockets_left, dockets_out, first_docket, handed};
+ghost use Rattle.rooms.specs.Handing.{docket_and_others, dockets_left, dockets_out, first_docket};
 ghost use Rattle.rooms.specs.States.{state};
 
 use crate::docket::Docket;
 use crate::room::Room;
 use arrayvec::ArrayVec;
-use seats::slip::Slip;
+use seats::docket_id::DocketId;
 
 // Dockets that nobody has in hand yet, by their numbers. Like a docket, it is not Drop: one docket after the other is taken,
 // to be sent or parked, and only where none is left it is gone.
 pub struct OutDockets {
-    slips: ArrayVec<Slip, 16>,
+    ids: ArrayVec<DocketId, 16>,
 }
 
 impl OutDockets {
@@ -21,21 +21,21 @@ impl OutDockets {
     pub(crate) fn of(room: &Room) -> OutDockets
         ensures { dockets_left result ≡ dockets_out (state room.now) }
     {
-        let mut slips = ArrayVec::new();
+        let mut ids = ArrayVec::new();
         for seat in 0..16 {
-            if let Some(slip) = room.out(seat) {
-                slips.push(slip);
+            if let Some(docket_id) = room.out(seat) {
+                ids.push(docket_id);
             }
         }
-        OutDockets { slips }
+        OutDockets { ids }
     }
 
     // Takes the first docket, and answers it with the others. None, where none is left.
     pub fn next(self) -> Option<(Docket, OutDockets)>
-        ensures { option_map handed result ≡ first_docket (dockets_left self) }
+        ensures { option_map docket_and_others result ≡ first_docket (dockets_left self) }
     {
-        let OutDockets { mut slips } = self;
-        let slip = slips.pop_at(0)?;
-        Some((Docket::of(slip), OutDockets { slips }))
+        let OutDockets { mut ids } = self;
+        let docket_id = ids.pop_at(0)?;
+        Some((Docket::of(docket_id), OutDockets { ids }))
     }
 }

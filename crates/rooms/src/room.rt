@@ -1,6 +1,6 @@
 // An open room.
 ghost use Rattle.std.specs.Prelude.{◌≡◌, ℕ, ◌*◌, ◌<◌, ◌≤◌, length, get_or, slice_index_or};
-ghost use Rattle.seats.specs.Keeping.{Nobody, Within};
+ghost use Rattle.seats.specs.Invariants.{Nobody, Within};
 ghost use Rattle.seats.specs.Seats.{blank};
 
 use crate::terms::Terms;

@@ -1,12 +1,12 @@
 // A room's whole life: it opens and makes one step after the other.
 ghost use Rattle.std.specs.Prelude.{◌≡◌, ◌≤◌, length, drop, Ok};
-ghost use Rattle.letters.specs.Refusals.{told};
-ghost use Rattle.lives.specs.Worked.{Worked};
-ghost use Rattle.lives.specs.Keeps.{AlwaysKeeps, Keeps};
+ghost use Rattle.letters.specs.Refusals.{as_answer};
+ghost use Rattle.lives.specs.Reachability.{Reachable};
+ghost use Rattle.lives.specs.Guarantees.{AlwaysGuaranteed, Guarantees};
 ghost use Rattle.rooms.specs.Handing.{AreOut, dockets_left, dockets_out};
-ghost use Rattle.rooms.specs.Running.{RunCarries, RunKeeps, RunLeads, StepsCarry, StepsLead, StepsServe, run_answer, steps_trace};
+ghost use Rattle.rooms.specs.Running.{RunCarries, RunGuarantees, RunPath, StepsCarry, StepsPath, StepsServe, run_answer, steps_trace};
 ghost use Rattle.rooms.specs.States.{state};
-ghost use Rattle.rooms.specs.Working.{room_moment};
+ghost use Rattle.rooms.specs.WithCarrier.{room_configuration};
 
 use crate::draft::Draft;
 use crate::ended::Ended;
@@ -16,29 +16,29 @@ use carriers::carrier::Carrier;
 use letters::body::Body;
 use letters::letter::Letter;
 use letters::refusal::Refusal;
-use lives::moves::Move;
-use lives::reply::Reply;
-use seats::slip::Slip;
+use lives::operation::Operation;
+use lives::response::Response;
+use seats::docket_id::DocketId;
 use sheets::sheet::Sheet;
 
-// Whether the draft can be run. Refused with 5 where not every reply has a place, and else as its opening is, with 4, 5, 6, 7.
+// Whether the draft can be run. Refused with 5 where not every response has a place, and else as its opening is, with 4, 5, 6, 7.
 pub fn check<B: Body, C: Carrier<Body = B>>(
     draft: &Draft,
     logs: &[Letter<B>],
     holds: &[Letter<B>],
     carrier: &C,
-    steps: &[Move<B, Slip>],
-    replies: &[Result<Reply<Slip>, Refusal>],
+    steps: &[Operation<B, DocketId>],
+    responses: &[Result<Response<DocketId>, Refusal>],
 ) -> Result<(), Refusal>
-    ensures { told (λ u. u) result ≡ run_answer C.Carrier draft.now logs.now holds.now carrier.now steps.now replies.now }
+    ensures { as_answer (λ u. u) result ≡ run_answer C.Carrier draft.now logs.now holds.now carrier.now steps.now responses.now }
 {
-    if replies.len() < steps.len() {
+    if responses.len() < steps.len() {
         return Err(Refusal::TooShort);
     }
     draft.check_open(logs, holds, carrier)
 }
 
-// Opens the room, makes the steps in turn and writes down what each replies; of each seat whose docket is out in the end it
+// Opens the room, makes the steps in turn and writes down what each responses; of each seat whose docket is out in the end it
 // hands out the docket. Whatever the steps are, the room keeps causal order, complete delivery and convergence on every kind
 // of sheet, and did so after each step.
 pub fn run<B: Body, C: Carrier<Body = B>, K: Sheet<Body = B>>(
@@ -46,23 +46,23 @@ pub fn run<B: Body, C: Carrier<Body = B>, K: Sheet<Body = B>>(
     logs: &mut [Letter<B>],
     holds: &mut [Letter<B>],
     carrier: &mut C,
-    steps: &[Move<B, Slip>],
-    replies: &mut [Result<Reply<Slip>, Refusal>],
+    steps: &[Operation<B, DocketId>],
+    responses: &mut [Result<Response<DocketId>, Refusal>],
 ) -> Ended
-    requires { run_answer C.Carrier draft logs.old holds.old carrier.old steps.now replies.old ≡ Ok tt }
-    ensures leads { RunLeads C.Carrier draft logs.old holds.old carrier.old steps.now replies.new result.room logs.new holds.new carrier.new }
-    ensures worked { Worked (steps_trace steps.now replies.new) (room_moment C.Carrier result.room logs.new holds.new carrier.new) }
-    ensures keeps { Keeps K.Sheet.kind (steps_trace steps.now replies.new) (room_moment C.Carrier result.room logs.new holds.new carrier.new) }
-    ensures throughout { RunKeeps K.Sheet C.Carrier draft logs.old holds.old carrier.old steps.now replies.new result.room logs.new holds.new carrier.new }
-    ensures always { AlwaysKeeps K.Sheet.kind }
-    ensures carrier { RunCarries C.Carrier draft logs.old holds.old carrier.old steps.now replies.new result.room logs.new holds.new carrier.new }
-    ensures serves { StepsServe C.Carrier carrier.old steps.now replies.new carrier.new }
+    requires { run_answer C.Carrier draft logs.old holds.old carrier.old steps.now responses.old ≡ Ok tt }
+    ensures path { RunPath C.Carrier draft logs.old holds.old carrier.old steps.now responses.new result.room logs.new holds.new carrier.new }
+    ensures reachable { Reachable (steps_trace steps.now responses.new) (room_configuration C.Carrier result.room logs.new holds.new carrier.new) }
+    ensures guarantees { Guarantees K.Sheet.kind (steps_trace steps.now responses.new) (room_configuration C.Carrier result.room logs.new holds.new carrier.new) }
+    ensures throughout { RunGuarantees K.Sheet C.Carrier draft logs.old holds.old carrier.old steps.now responses.new result.room logs.new holds.new carrier.new }
+    ensures always { AlwaysGuaranteed K.Sheet.kind }
+    ensures carrier { RunCarries C.Carrier draft logs.old holds.old carrier.old steps.now responses.new result.room logs.new holds.new carrier.new }
+    ensures serves { StepsServe C.Carrier carrier.old steps.now responses.new carrier.new }
     ensures dockets { dockets_left result.dockets ≡ dockets_out (state result.room) }
     ensures good { AreOut (state result.room) (dockets_left result.dockets) }
-    ensures rest { drop (length steps.now) replies.new ≡ drop (length steps.now) replies.old }
+    ensures rest { drop (length steps.now) responses.new ≡ drop (length steps.now) responses.old }
 {
     let mut room = draft.open(logs, holds, carrier);
-    step_all(&mut room, logs, holds, carrier, steps, replies);
+    step_all(&mut room, logs, holds, carrier, steps, responses);
     let dockets = OutDockets::of(&room);
     Ended { room, dockets }
 }
@@ -73,17 +73,17 @@ fn step_all<B: Body, C: Carrier<Body = B>>(
     logs: &mut [Letter<B>],
     holds: &mut [Letter<B>],
     carrier: &mut C,
-    steps: &[Move<B, Slip>],
-    replies: &mut [Result<Reply<Slip>, Refusal>],
+    steps: &[Operation<B, DocketId>],
+    responses: &mut [Result<Response<DocketId>, Refusal>],
 )
-    requires { length steps.now ≤ length replies.old }
-    ensures leads { StepsLead C.Carrier room.old logs.old holds.old carrier.old steps.now replies.new room.new logs.new holds.new carrier.new }
-    ensures carrier { StepsCarry C.Carrier room.old logs.old holds.old carrier.old steps.now replies.new room.new logs.new holds.new carrier.new }
-    ensures serves { StepsServe C.Carrier carrier.old steps.now replies.new carrier.new }
-    ensures rest { drop (length steps.now) replies.new ≡ drop (length steps.now) replies.old }
+    requires { length steps.now ≤ length responses.old }
+    ensures path { StepsPath C.Carrier room.old logs.old holds.old carrier.old steps.now responses.new room.new logs.new holds.new carrier.new }
+    ensures carrier { StepsCarry C.Carrier room.old logs.old holds.old carrier.old steps.now responses.new room.new logs.new holds.new carrier.new }
+    ensures serves { StepsServe C.Carrier carrier.old steps.now responses.new carrier.new }
+    ensures rest { drop (length steps.now) responses.new ≡ drop (length steps.now) responses.old }
 {
     for (i, asked) in steps.iter().enumerate() {
-        // Not by `iter_mut`: of what is written through it, nothing is known of the replies afterwards.
-        replies[i] = room.step(logs, holds, carrier, *asked);
+        // Not by `iter_mut`: of what is written through it, nothing is known of the responses afterwards.
+        responses[i] = room.step(logs, holds, carrier, *asked);
     }
 }

@@ -1,4 +1,4 @@
-// What is settled of a room before it opens.
+// What is fixed of a room before it opens.
 ghost use Rattle.std.specs.Prelude.{◌≡◌, ◌*◌, ◌≤◌, ◌&&◌, nat_le};
 
 // The terms of a room: its number, its quota, and the names of the boxes that are enrolled, in sixteen places with their

@@ -1,18 +1,18 @@
 -- The dockets of a room that are in hand.
 use Rattle.std.specs.Prelude.{ℕ, Bool, true, false, not, ◌&&◌, ◌==◌, Ok, Err, Some, None, Option, Result}
-use Rattle.seats.specs.Outcomes.{good_slip}
+use Rattle.seats.specs.Outcomes.{good_docket}
 use Rattle.rooms.specs.declared.docket.Docket.{Docket}
 use Rattle.rooms.specs.declared.docket.Returned.{Returned}
 use Rattle.rooms.specs.declared.draft.Draft.{Draft}
 use Rattle.rooms.specs.declared.room.Room.{Room}
-use Rattle.rooms.specs.Drafts.{draft_state}
-use Rattle.rooms.specs.States.{slip, state}
+use Rattle.rooms.specs.Drafts.{state_of_draft}
+use Rattle.rooms.specs.States.{id_of, state}
 
 -- what a hand has is good at the room; where no room is open, it has nothing
 abbrev pub good_in : Option Room → Option Docket → Bool
 good_in room None = true
 good_in None (Some d) = false
-good_in (Some room) (Some d) = good_slip (state room) (slip d)
+good_in (Some room) (Some d) = good_docket (state room) (id_of d)
 
 -- what two hands have is of two seats
 abbrev pub of_two_seats : Option Docket → Option Docket → Bool
@@ -28,7 +28,7 @@ fits_back room other (Err back) = good_in room (Some back.docket) && of_two_seat
 -- a draft has this number, and so has a room
 abbrev pub drafted_as : ℕ → Option Draft → Bool
 drafted_as number None = true
-drafted_as number (Some d) = (draft_state d).number == number
+drafted_as number (Some d) = (state_of_draft d).number == number
 
 abbrev pub numbered_as : ℕ → Option Room → Bool
 numbered_as number None = true

@@ -11,8 +11,8 @@ use letters::refusal::Refusal;
 use letters::stamp::Stamp;
 use letters::text::Text;
 use records::fault::Fault;
-use seats::slip::Slip;
-use seats::taken::Taken;
+use seats::docket_id::DocketId;
+use seats::take_outcome::TakeOutcome;
 use std::alloc::AllocError;
 use std::{array, fmt, str};
 
@@ -387,8 +387,8 @@ enum AnswerLine {
     Bad(Fault),
     Done,
     Seat(u8),
-    Docket(Slip),
-    Taken(Taken),
+    Docket(DocketId),
+    Taken(TakeOutcome),
     Shown(LetterId),
     Pages(u32),
     Name(LetterId),
@@ -414,8 +414,12 @@ impl fmt::Display for AnswerLine {
             AnswerLine::Bad(fault) => write!(f, "refused 20 {} {}", fault.index, fault.byte),
             AnswerLine::Done => write!(f, "done"),
             AnswerLine::Seat(seat) => write!(f, "seat {seat}"),
-            AnswerLine::Docket(slip) => {
-                write!(f, "docket {} {} {}", slip.room, slip.seat, slip.number)
+            AnswerLine::Docket(docket_id) => {
+                write!(
+                    f,
+                    "docket {} {} {}",
+                    docket_id.room, docket_id.seat, docket_id.number
+                )
             }
             AnswerLine::Taken(taken) => write!(f, "{taken}"),
             AnswerLine::Shown(id) => write!(f, "shown {id}"),

@@ -9,13 +9,13 @@ use letters::body::Body;
 use letters::job::Job;
 use letters::letter::Letter;
 use letters::refusal::Refusal;
-use lives::moves::Move;
-use lives::reply::Reply;
+use lives::operation::Operation;
+use lives::response::Response;
 use pair::Pair;
 use rooms::draft::Draft;
 use rooms::room::Room;
 use rooms::run;
-use seats::slip::Slip;
+use seats::docket_id::DocketId;
 use sheet_kinds::job_list::JobList;
 use spool::Spool;
 use spool::tape::ROW_SIZE;
@@ -76,39 +76,41 @@ fn tell(rt: &HostRuntime, ended: Result<(), Stop>) -> io::Result<()> {
 
 // The step that twelve bytes write: the call, a seat, a 16-bit number, a 32-bit one, a poster, and zeros.
 // The calls are 1 post an add, 2 post a strike, 3 send, 4 park, 5 collect, 6 take, and show by any other.
-fn read_move(bytes: &[u8]) -> Result<Move<Job, Slip>, Refusal> {
+fn read_move(bytes: &[u8]) -> Result<Operation<Job, DocketId>, Refusal> {
     let &[call, seat, low, high, a, b, c, d, poster, ..] = bytes else {
-        return Ok(Move::Show(0));
+        return Ok(Operation::Show(0));
     };
     let number = u16::from_le_bytes([low, high]);
     let wide = u32::from_le_bytes([a, b, c, d]);
-    let slip = Slip {
+    let docket_id = DocketId {
         room: wide,
         seat,
         number,
     };
     match call {
-        1 => Ok(Move::Post(seat, Job::Add(wide))),
-        2 => Ok(Move::Post(seat, Job::strike(poster, number)?)),
-        3 => Ok(Move::Send(slip)),
-        4 => Ok(Move::Park(slip)),
-        5 => Ok(Move::Collect(seat)),
-        6 => Ok(Move::Take(seat, wide)),
-        _ => Ok(Move::Show(seat)),
+        1 => Ok(Operation::Post(seat, Job::Add(wide))),
+        2 => Ok(Operation::Post(seat, Job::strike(poster, number)?)),
+        3 => Ok(Operation::Send(docket_id)),
+        4 => Ok(Operation::Park(docket_id)),
+        5 => Ok(Operation::Collect(seat)),
+        6 => Ok(Operation::Take(seat, wide)),
+        _ => Ok(Operation::Show(seat)),
     }
 }
 
-fn print_reply(rt: &HostRuntime, reply: Reply<Slip>) -> io::Result<()> {
-    match reply {
-        Reply::Docket(Slip { room, seat, number }) => println!(rt; "docket {room} {seat} {number}"),
-        Reply::Done => println!(rt; "done"),
-        Reply::Taken(taken) => println!(rt; "{taken}"),
-        Reply::Shown(id) => println!(rt; "shown {id}"),
+fn print_reply(rt: &HostRuntime, response: Response<DocketId>) -> io::Result<()> {
+    match response {
+        Response::Docket(DocketId { room, seat, number }) => println!(rt;
+            "docket {room} {seat} {number}"
+        ),
+        Response::Done => println!(rt; "done"),
+        Response::Taken(taken) => println!(rt; "{taken}"),
+        Response::Shown(id) => println!(rt; "shown {id}"),
     }
 }
 
 // The steps that the bytes write, without those that cannot be read.
-fn read_moves(alloc: Global, steps: &[u8]) -> Result<Vec<Move<Job, Slip>>, AllocError> {
+fn read_moves(alloc: Global, steps: &[u8]) -> Result<Vec<Operation<Job, DocketId>>, AllocError> {
     let mut asked = Vec::new(alloc);
     for bytes in steps.chunks_exact(12) {
         if let Ok(step) = read_move(bytes) {
@@ -118,47 +120,47 @@ fn read_moves(alloc: Global, steps: &[u8]) -> Result<Vec<Move<Job, Slip>>, Alloc
     Ok(asked)
 }
 
-// Places for so many replies.
+// Places for so many responses.
 fn no_replies(
     alloc: Global,
     count: usize,
-) -> Result<Vec<Result<Reply<Slip>, Refusal>>, AllocError> {
-    let mut replies = Vec::new(alloc);
+) -> Result<Vec<Result<Response<DocketId>, Refusal>>, AllocError> {
+    let mut responses = Vec::new(alloc);
     for _ in 0..count {
-        replies.push(Err(Refusal::TooShort))?;
+        responses.push(Err(Refusal::TooShort))?;
     }
-    Ok(replies)
+    Ok(responses)
 }
 
 // Prints what each step replied, and the refusals of those that cannot be read between them.
 fn print_replies(
     rt: &HostRuntime,
     steps: &[u8],
-    replies: &[Result<Reply<Slip>, Refusal>],
+    responses: &[Result<Response<DocketId>, Refusal>],
 ) -> io::Result<()> {
-    let mut replied = replies.iter();
+    let mut replied = responses.iter();
     for bytes in steps.chunks_exact(12) {
-        let reply = match read_move(bytes) {
+        let response = match read_move(bytes) {
             Ok(_) => *replied.next().unwrap_or(&Err(Refusal::TooShort)),
             Err(why) => Err(why),
         };
-        match reply {
-            Ok(reply) => print_reply(rt, reply)?,
+        match response {
+            Ok(response) => print_reply(rt, response)?,
             Err(why) => println!(rt; "refused {why}")?,
         }
     }
     Ok(())
 }
 
-// A room that was worked, with the tables that are brought to its calls.
+// A room in which steps were made, with the tables that are brought to its calls.
 #[derive(Drop)]
-struct Desk<'t> {
+struct Session<'t> {
     room: Room,
     logs: &'t mut [Letter<Job>],
     holds: &'t mut [Letter<Job>],
 }
 
-impl Desk<'_> {
+impl Session<'_> {
     fn print_log(&self, rt: &HostRuntime, seat: u8) -> io::Result<()> {
         print!(rt; "log {seat}")?;
         if let Ok(log) = self.room.log(self.logs, self.holds, seat) {
@@ -203,14 +205,14 @@ fn live_on_pair<C: Carrier<Body = Job> + Drop, D: Carrier<Body = Job> + Drop>(
     let mut logs = [blank; PLACES];
     let mut holds = [blank; PLACES];
     let asked = read_moves(rt.alloc(), steps)?;
-    let mut replies = no_replies(rt.alloc(), asked.len())?;
+    let mut responses = no_replies(rt.alloc(), asked.len())?;
     run::check(
         &draft,
         &logs,
         &holds,
         &pair,
         asked.as_slice(),
-        replies.as_slice(),
+        responses.as_slice(),
     )?;
     let ended = run::run::<Job, Pair<C, D>, JobList>(
         draft,
@@ -218,16 +220,16 @@ fn live_on_pair<C: Carrier<Body = Job> + Drop, D: Carrier<Body = Job> + Drop>(
         &mut holds,
         &mut pair,
         asked.as_slice(),
-        replies.as_mut_slice(),
+        responses.as_mut_slice(),
     );
     let room = ended.park_all();
-    print_replies(rt, steps, replies.as_slice())?;
-    let desk = Desk {
+    print_replies(rt, steps, responses.as_slice())?;
+    let session = Session {
         room,
         logs: &mut logs,
         holds: &mut holds,
     };
-    desk.print_seats(rt, seats)?;
+    session.print_seats(rt, seats)?;
     Ok(())
 }
 

@@ -3,10 +3,10 @@ use Rattle.std.proofs.Common.{◌≡◌, ℕ, ◌+◌, ◌*◌, ◌<◌, ◌≤�
 use Rattle.std.proofs.lemmas.Bool.Decides.{nat_tests}
 use Rattle.letters.specs.declared.letter.Letter.{Letter}
 use Rattle.letters.specs.Letters.{number_of}
-use Rattle.seats.specs.Keeping.{Kept, Sound}
+use Rattle.seats.specs.Invariants.{RoomInvariant, SeatInvariant}
 use Rattle.seats.specs.Rooms.{RoomState, seat_at, start, foot, hold_of}
 use Rattle.seats.specs.Seats.{clock_at}
-use Rattle.seats.specs.Outcomes.{held, carrier_check, first_ready, seat_check, shown_seat}
+use Rattle.seats.specs.Outcomes.{held, carrier_check, first_ready, seat_check, seat_with_show}
 use Rattle.seats.proofs.Clocks.{seat_kept, clocked_kept, foot_below, row_end}
 use Rattle.seats.proofs.Searches.{found}
 
@@ -40,7 +40,7 @@ pub record Showable (st : RoomState) (logs holds s k : ℕ) {B : Type 0} (m : Le
   pub hold_end : start st s + (seat_at st s).held ≤ holds
 
 -- an accepted show
-pub showable : {B : Type 0} (st : RoomState) (ok : Sound st) (logs s k : ℕ) (holds : List (Letter B)) (m : Letter B) → Ok tt ≡ seat_check st logs (length holds) s → Some (k, m) ≡ first_ready st holds s → Showable st logs (length holds) s k m
+pub showable : {B : Type 0} (st : RoomState) (ok : RoomInvariant st) (logs s k : ℕ) (holds : List (Letter B)) (m : Letter B) → Ok tt ≡ seat_check st logs (length holds) s → Some (k, m) ≡ first_ready st holds s → Showable st logs (length holds) s k m
 showable st ok logs s k holds m can e =
     let seat = seat_at st s in
     let at = visited st logs (length holds) s can in
@@ -60,7 +60,7 @@ showable st ok logs s k holds m can e =
     }
 
 -- a seat that showed a letter is kept
-pub shown_kept : {B : Type 0} (st : RoomState) (ok : Sound st) (s : ℕ) (m : Letter B) → s < st.count → m.poster < st.count → number_of m ≤ st.quota → Kept st.count st.quota (shown_seat (seat_at st s) m)
+pub shown_kept : {B : Type 0} (st : RoomState) (ok : RoomInvariant st) (s : ℕ) (m : Letter B) → s < st.count → m.poster < st.count → number_of m ≤ st.quota → SeatInvariant st.count st.quota (seat_with_show (seat_at st s) m)
 shown_kept st ok s m inside poster few =
     let seat = seat_kept st ok s (omega (arith, ok.few)) in
     let kept = clocked_kept st.count st.quota ok.few _ seat m.poster poster (number_of m) few in

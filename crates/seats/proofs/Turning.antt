@@ -2,7 +2,7 @@
 use Rattle.std.proofs.Common.{◌≡◌, ℕ, suc, ◌+◌, ◌<◌, List, [], ◌∷◌, ◌++◌, length, get_or, take, drop, set, sym, ap, ◌∙◌, append_assoc, arith}
 use borrow.Rule.Slice.PartMut.{put_mid}
 use Rattle.std.proofs.lemmas.List.{drop_more, drop-drop, length-drop, length-take-le, get_or-take, get_or-drop, set_at}
-use Rattle.seats.specs.Rooms.{closed}
+use Rattle.seats.specs.Rooms.{table_closed_up}
 
 module _ {X : Type 0} where
   -- a list turned by one, its last element as it was
@@ -12,7 +12,7 @@ module _ {X : Type 0} where
 
   module _ (xs : List X) (at behind cut : ℕ) (fits : at + behind < length xs) (size : cut ≡ suc behind) where
     pub turned : (part : List X) (last : X) → part ≡ drop 1 (take cut (drop at xs)) ++ take 1 (take cut (drop at xs)) → last ≡ get_or (take cut (drop at xs)) behind last
-        → put_mid at cut xs (set part behind last) ≡ closed xs at behind
+        → put_mid at cut xs (set part behind last) ≡ table_closed_up xs at behind
     turned part last is at_end =
         let ys : List X = drop (at + 1) xs in
         let long : behind ≡ length (take behind ys) = sym (length-take-le behind ys (omega (arith, length-drop (at + 1) xs))) in

@@ -1,6 +1,6 @@
 pub mod Seats
 pub mod Rooms
-pub mod Keeping
+pub mod Invariants
 pub mod Outcomes
 pub mod Scans
-pub mod Takings
+pub mod TakeTexts

@@ -9,31 +9,31 @@ use Rattle.carriers.specs.Meaning.{Drawn, Meaning, PutOn, draw_answer, put_answe
 use Rattle.seats.specs.declared.seat.Seat.{Seat}
 use Rattle.seats.specs.declared.seat.DocketEvent.{DocketEvent}
 use Rattle.seats.specs.declared.seat.DocketEvent.TheVariants.{Post, Send, Collect}
-use Rattle.seats.specs.declared.slip.Slip.{Slip}
-use Rattle.seats.specs.declared.taken.Taken.{Taken}
-use Rattle.seats.specs.declared.taken.Taken.TheVariants as taken
-use Rattle.seats.specs.Rooms.{RoomState, closed, foot, hold_of, log_of, seat_at, start, suffice, with_seat}
-use Rattle.seats.specs.Seats.{allows, clock_at, clocked, docketed, holding, raised, released}
+use Rattle.seats.specs.declared.docket_id.DocketId.{DocketId}
+use Rattle.seats.specs.declared.take_outcome.TakeOutcome.{TakeOutcome}
+use Rattle.seats.specs.declared.take_outcome.TakeOutcome.TheVariants as take_outcomes
+use Rattle.seats.specs.Rooms.{RoomState, foot, hold_of, log_of, seat_at, start, suffice, table_closed_up, with_seat}
+use Rattle.seats.specs.Seats.{allows, clock_at, with_clock_entry, with_clock_raised, with_docket_event, with_one_held_less, with_one_held_more}
 
 -- an answer where a check accepts
-abbrev pub answered : {X : Type 0} → Result (Unit {0}) Reason → X → Result X Reason
-answered (Ok done) x = Ok x
-answered (Err why) x = Err why
+abbrev pub answer_if : {X : Type 0} → Result (Unit {0}) Reason → X → Result X Reason
+answer_if (Ok done) x = Ok x
+answer_if (Err why) x = Err why
 
 -- a further answer where a check accepts
-abbrev pub follows : {X : Type 0} → Result (Unit {0}) Reason → Result X Reason → Result X Reason
-follows (Ok done) r = r
-follows (Err why) r = Err why
+abbrev pub answer_then : {X : Type 0} → Result (Unit {0}) Reason → Result X Reason → Result X Reason
+answer_then (Ok done) r = r
+answer_then (Err why) r = Err why
 
 -- a table or a room after an answer: changed where it accepts, and as it was on refusal
-abbrev pub after : {X Y : Type 0} → Result X Reason → (X → Y) → Y → Y
-after (Ok x) changed was = changed x
-after (Err why) changed was = was
+abbrev pub after_answer : {X Y : Type 0} → Result X Reason → (X → Y) → Y → Y
+after_answer (Ok x) changed was = changed x
+after_answer (Err why) changed was = was
 
 -- the first element that passes a test, with its place, counted from i
-abbrev pub first : {X : Type 0} → (X → Bool) → ℕ → List X → Option (ℕ × X)
-first test i [] = None
-first test i (x ∷ xs) = cond (test x) (Some (i, x)) (first test (i + 1) xs)
+abbrev pub first_passing : {X : Type 0} → (X → Bool) → ℕ → List X → Option (ℕ × X)
+first_passing test i [] = None
+first_passing test i (x ∷ xs) = cond (test x) (Some (i, x)) (first_passing test (i + 1) xs)
 
 -- Post.
 abbrev pub post_check : RoomState → ℕ → ℕ → ℕ → Result (Unit {0}) Reason
@@ -44,42 +44,42 @@ post_check st logs holds s =
     (unless (nat_lt (clock_at (seat_at st s) s) st.quota) 9 (Ok tt))))
 
 -- the docket of a seat's newest letter
-abbrev pub slip_of : RoomState → ℕ → Slip
-slip_of st s = record { room = st.number; seat = s; number = clock_at (seat_at st s) s }
+abbrev pub newest_docket : RoomState → ℕ → DocketId
+newest_docket st s = record { room = st.number; seat = s; number = clock_at (seat_at st s) s }
 
 -- the seat after it posted
-abbrev pub posted_seat : Seat → ℕ → Seat
-posted_seat seat s = raised (docketed seat Post) s
+abbrev pub seat_with_post : Seat → ℕ → Seat
+seat_with_post seat s = with_clock_raised (with_docket_event seat Post) s
 
 -- the room after an accepted post
-abbrev pub posted_room : RoomState → ℕ → RoomState
-posted_room st s = with_seat st s (posted_seat (seat_at st s) s)
+abbrev pub room_with_post : RoomState → ℕ → RoomState
+room_with_post st s = with_seat st s (seat_with_post (seat_at st s) s)
 
 -- a post answers the docket of the letter that it posts
-abbrev pub post_answer : RoomState → ℕ → ℕ → ℕ → Result Slip Reason
-post_answer st logs holds s = answered (post_check st logs holds s) (slip_of (posted_room st s) s)
+abbrev pub post_answer : RoomState → ℕ → ℕ → ℕ → Result DocketId Reason
+post_answer st logs holds s = answer_if (post_check st logs holds s) (newest_docket (room_with_post st s) s)
 
 -- the tables suffice and the seat is of the room
 abbrev pub seat_check : RoomState → ℕ → ℕ → ℕ → Result (Unit {0}) Reason
 seat_check st logs holds s = unless (suffice st logs holds) 5 (unless (nat_lt s st.count) 8 (Ok tt))
 
 -- Dockets. One is good at a room: of this room, its seat's docket is out, and its number is the seat's own entry.
-abbrev pub good_slip : RoomState → Slip → Bool
-good_slip st d =
+abbrev pub good_docket : RoomState → DocketId → Bool
+good_docket st d =
     (d.room == st.number)
     && (nat_lt d.seat st.count
     && (allows (seat_at st d.seat).docket Send
     && d.number == clock_at (seat_at st d.seat) d.seat))
 
-abbrev pub park_answer : RoomState → Slip → Result (Unit {0}) Reason
-park_answer st d = unless (good_slip st d) 12 (Ok tt)
+abbrev pub park_answer : RoomState → DocketId → Result (Unit {0}) Reason
+park_answer st d = unless (good_docket st d) 12 (Ok tt)
 
-abbrev pub collect_answer : RoomState → ℕ → Result Slip Reason
-collect_answer st s = unless (nat_lt s st.count) 8 (unless (allows (seat_at st s).docket Collect) 13 (Ok (slip_of st s)))
+abbrev pub collect_answer : RoomState → ℕ → Result DocketId Reason
+collect_answer st s = unless (nat_lt s st.count) 8 (unless (allows (seat_at st s).docket Collect) 13 (Ok (newest_docket st s)))
 
 -- the room after an accepted event at a seat's docket
 abbrev pub docket_room : {X : Type 0} → RoomState → ℕ → DocketEvent → Result X Reason → RoomState
-docket_room st s e answer = after answer (λ x. with_seat st s (docketed (seat_at st s) e)) st
+docket_room st s e answer = after_answer answer (λ x. with_seat st s (with_docket_event (seat_at st s) e)) st
 
 -- the tables suffice and the carrier serves the room's seats
 abbrev pub carrier_check : RoomState → ℕ → ℕ → ℕ → Result (Unit {0}) Reason
@@ -112,27 +112,27 @@ module _ {B : Type 0} where
   -- what an accepted post leaves in the log table: the letter, stamped with the raised clock, at the foot of the seat's log
   pub record Posted (st : RoomState) (s : ℕ) (body : B) (logs logs' : List (Letter B)) : Type 0 where
     pub letter : Letter B
-    pub made : parts_of letter ≡ parts (posted_seat (seat_at st s) s).clock s body
+    pub made : parts_of letter ≡ parts (seat_with_post (seat_at st s) s).clock s body
     pub table : logs' ≡ slice_set logs (foot st s) letter
 
-  abbrev pub PostLogs : RoomState → Result Slip Reason → ℕ → B → List (Letter B) → List (Letter B) → Type 0
-  PostLogs st (Ok slip) s body logs logs' = Posted st s body logs logs'
+  abbrev pub PostLogs : RoomState → Result DocketId Reason → ℕ → B → List (Letter B) → List (Letter B) → Type 0
+  PostLogs st (Ok docket_id) s body logs logs' = Posted st s body logs logs'
   PostLogs st (Err why) s body logs logs' = logs' ≡ logs
 
   -- Send. The docket's letter: the first such in the log.
-  abbrev pub slip_letter : RoomState → List (Letter B) → Slip → Result (Letter B) Reason
-  slip_letter st logs d = or_missing (first (is_called d.seat d.number) 0 (log_of st logs d.seat))
+  abbrev pub docket_letter : RoomState → List (Letter B) → DocketId → Result (Letter B) Reason
+  docket_letter st logs d = or_missing (first_passing (is_called d.seat d.number) 0 (log_of st logs d.seat))
 
   -- what there is to put on the carrier
-  abbrev pub send_letter : RoomState → List (Letter B) → ℕ → ℕ → Slip → Result (Letter B) Reason
-  send_letter st logs holds seats d = follows (carrier_check st (length logs) holds seats) (follows (park_answer st d) (slip_letter st logs d))
+  abbrev pub send_letter : RoomState → List (Letter B) → ℕ → ℕ → DocketId → Result (Letter B) Reason
+  send_letter st logs holds seats d = answer_then (carrier_check st (length logs) holds seats) (answer_then (park_answer st d) (docket_letter st logs d))
 
   -- what the carrier answers to it
   abbrev pub put_letter : Meaning (Letter B) → Result (Letter B) Reason → Result (Unit {0}) Reason
   put_letter c (Ok m) = put_answer c m.poster
   put_letter c (Err why) = Err why
 
-  abbrev pub send_answer : RoomState → List (Letter B) → ℕ → Meaning (Letter B) → Slip → Result (Unit {0}) Reason
+  abbrev pub send_answer : RoomState → List (Letter B) → ℕ → Meaning (Letter B) → DocketId → Result (Unit {0}) Reason
   send_answer st logs holds c d = put_letter c (send_letter st logs holds c.seats d)
 
   -- what a send leaves on the carrier
@@ -159,86 +159,86 @@ module _ {B : Type 0} where
   abbrev pub is_repeat : RoomState → List (Letter B) → ℕ → Letter B → Bool
   is_repeat st holds s m =
       nat_le (number_of m) (clock_at (seat_at st s) m.poster)
-      || is_some (first (is_called m.poster (number_of m)) 0 (hold_of st holds s))
+      || is_some (first_passing (is_called m.poster (number_of m)) 0 (hold_of st holds s))
 
 -- stray, repeat or held
-pub data Taking : Type 0 where
-  stray : Taking
-  repeat : Taking
-  held : Taking
+pub data TakeKind : Type 0 where
+  stray : TakeKind
+  repeat : TakeKind
+  held : TakeKind
 
 -- an answer of a take as its caller sees it: the case, with poster and number
-abbrev pub taken_as : Taken → Taking × Name
-taken_as (taken.Stray id) = (stray, name_of id)
-taken_as (taken.Repeat id) = (repeat, name_of id)
-taken_as (taken.Held id) = (held, name_of id)
+abbrev pub take_as_answer : TakeOutcome → TakeKind × Name
+take_as_answer (take_outcomes.Stray id) = (stray, name_of id)
+take_as_answer (take_outcomes.Repeat id) = (repeat, name_of id)
+take_as_answer (take_outcomes.Held id) = (held, name_of id)
 
 -- the room after a letter is taken
-abbrev pub taken_room : RoomState → Taking → ℕ → RoomState
-taken_room st stray s = st
-taken_room st repeat s = st
-taken_room st held s = with_seat st s (holding (seat_at st s))
+abbrev pub take_room : RoomState → TakeKind → ℕ → RoomState
+take_room st stray s = st
+take_room st repeat s = st
+take_room st held s = with_seat st s (with_one_held_more (seat_at st s))
 
 module _ {B : Type 0} where
-  abbrev pub taking : RoomState → List (Letter B) → ℕ → Letter B → Taking
-  taking st holds s m = cond (is_stray st s m) stray (cond (is_repeat st holds s m) repeat held)
+  abbrev pub kind_of_take : RoomState → List (Letter B) → ℕ → Letter B → TakeKind
+  kind_of_take st holds s m = cond (is_stray st s m) stray (cond (is_repeat st holds s m) repeat held)
 
   -- the hold table after a letter is taken
-  abbrev pub taken_holds : RoomState → Taking → ℕ → Letter B → List (Letter B) → List (Letter B)
-  taken_holds st stray s m holds = holds
-  taken_holds st repeat s m holds = holds
-  taken_holds st held s m holds = slice_set holds (start st s + (seat_at st s).held) m
+  abbrev pub take_holds : RoomState → TakeKind → ℕ → Letter B → List (Letter B) → List (Letter B)
+  take_holds st stray s m holds = holds
+  take_holds st repeat s m holds = holds
+  take_holds st held s m holds = slice_set holds (start st s + (seat_at st s).held) m
 
   -- a take is accepted where the carrier, of the room's size, has a letter at the place
   abbrev pub take_check : RoomState → ℕ → ℕ → Meaning (Letter B) → ℕ → ℕ → Result (Unit {0}) Reason
-  take_check st logs holds c s place = follows (carrier_check st logs holds c.seats) (draw_answer c s place)
+  take_check st logs holds c s place = answer_then (carrier_check st logs holds c.seats) (draw_answer c s place)
 
   -- what an accepted take does with the letter that it draws
-  pub record Takes (st : RoomState) (holds : List (Letter B)) (c : Meaning (Letter B)) (s place : ℕ) (r : Result (Taking × Name) Reason)
+  pub record TakeAccepted (st : RoomState) (holds : List (Letter B)) (c : Meaning (Letter B)) (s place : ℕ) (r : Result (TakeKind × Name) Reason)
       (st' : RoomState) (holds' : List (Letter B)) (c' : Meaning (Letter B)) : Type 0 where
     pub letter : Letter B
     pub there : letter ≡ slice_index_or (c.waiting s) place letter
     pub drawn : Drawn c s place c'
-    pub answer : r ≡ Ok (taking st holds s letter, letter_name letter)
-    pub room : st' ≡ taken_room st (taking st holds s letter) s
-    pub hold : holds' ≡ taken_holds st (taking st holds s letter) s letter holds
+    pub answer : r ≡ Ok (kind_of_take st holds s letter, letter_name letter)
+    pub room : st' ≡ take_room st (kind_of_take st holds s letter) s
+    pub hold : holds' ≡ take_holds st (kind_of_take st holds s letter) s letter holds
 
   -- what a refused one leaves
-  pub record NothingTaken (why : Reason) (st : RoomState) (holds : List (Letter B)) (c : Meaning (Letter B)) (r : Result (Taking × Name) Reason)
+  pub record TakeRefused (why : Reason) (st : RoomState) (holds : List (Letter B)) (c : Meaning (Letter B)) (r : Result (TakeKind × Name) Reason)
       (st' : RoomState) (holds' : List (Letter B)) (c' : Meaning (Letter B)) : Type 0 where
     pub answer : r ≡ Err why
     pub room : st' ≡ st
     pub hold : holds' ≡ holds
     pub carrier : c' ≡ c
 
-  abbrev pub Take : Result (Unit {0}) Reason → RoomState → List (Letter B) → Meaning (Letter B) → ℕ → ℕ → Result (Taking × Name) Reason
+  abbrev pub TakeLeaves : Result (Unit {0}) Reason → RoomState → List (Letter B) → Meaning (Letter B) → ℕ → ℕ → Result (TakeKind × Name) Reason
       → RoomState → List (Letter B) → Meaning (Letter B) → Type 0
-  Take (Ok done) st holds c s place r st' holds' c' = Takes st holds c s place r st' holds' c'
-  Take (Err why) st holds c s place r st' holds' c' = NothingTaken why st holds c r st' holds' c'
+  TakeLeaves (Ok done) st holds c s place r st' holds' c' = TakeAccepted st holds c s place r st' holds' c'
+  TakeLeaves (Err why) st holds c s place r st' holds' c' = TakeRefused why st holds c r st' holds' c'
 
   -- Show. The first ready letter of the seat's hold, with its place there.
   abbrev pub first_ready : RoomState → List (Letter B) → ℕ → Option (ℕ × Letter B)
-  first_ready st holds s = first (ready st.count st.quota s (seat_at st s).clock) 0 (hold_of st holds s)
+  first_ready st holds s = first_passing (ready st.count st.quota s (seat_at st s).clock) 0 (hold_of st holds s)
 
   -- what there is to show
   abbrev pub show_outcome : RoomState → ℕ → List (Letter B) → ℕ → Result (ℕ × Letter B) Reason
-  show_outcome st logs holds s = follows (seat_check st logs (length holds) s) (or_none_ready (first_ready st holds s))
+  show_outcome st logs holds s = answer_then (seat_check st logs (length holds) s) (or_none_ready (first_ready st holds s))
 
   -- the seat after it showed a letter: one held letter less, and the poster's entry is the letter's number
-  abbrev pub shown_seat : Seat → Letter B → Seat
-  shown_seat seat m = released (clocked seat m.poster (number_of m))
+  abbrev pub seat_with_show : Seat → Letter B → Seat
+  seat_with_show seat m = with_one_held_less (with_clock_entry seat m.poster (number_of m))
 
   abbrev pub show_answer : Result (ℕ × Letter B) Reason → Result Name Reason
   show_answer (Ok found) = Ok (letter_name found.1)
   show_answer (Err why) = Err why
 
   abbrev pub show_room : RoomState → Result (ℕ × Letter B) Reason → ℕ → RoomState
-  show_room st found s = after found (λ f. with_seat st s (shown_seat (seat_at st s) f.1)) st
+  show_room st found s = after_answer found (λ f. with_seat st s (seat_with_show (seat_at st s) f.1)) st
 
   -- the letter goes to the foot of the log
   abbrev pub show_logs : RoomState → Result (ℕ × Letter B) Reason → ℕ → List (Letter B) → List (Letter B)
-  show_logs st found s logs = after found (λ f. set logs (foot st s) f.1) logs
+  show_logs st found s logs = after_answer found (λ f. set logs (foot st s) f.1) logs
 
   -- and the hold closes up; the place that is vacated keeps what stood there last
   abbrev pub show_holds : RoomState → Result (ℕ × Letter B) Reason → ℕ → List (Letter B) → List (Letter B)
-  show_holds st found s holds = after found (λ f. closed holds (start st s + f.0) ((seat_at st s).held - f.0 - 1)) holds
+  show_holds st found s holds = after_answer found (λ f. table_closed_up holds (start st s + f.0) ((seat_at st s).held - f.0 - 1)) holds

@@ -41,5 +41,5 @@ module _ {B : Type 0} where
   hold_of st holds s = take (seat_at st s).held (drop (start st s) holds)
 
 -- a table after the n elements behind the place `at` moved down by one
-abbrev pub closed : {X : Type 0} → List X → ℕ → ℕ → List X
-closed table at n = paste table at (drop (at + 1) table) n
+abbrev pub table_closed_up : {X : Type 0} → List X → ℕ → ℕ → List X
+table_closed_up table at n = paste table at (drop (at + 1) table) n

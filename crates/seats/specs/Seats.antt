@@ -23,43 +23,43 @@ allows Parked Park = false
 allows Parked Collect = true
 
 -- where each move leads; what is not allowed leaves the state
-abbrev pub moved : DocketState → DocketEvent → DocketState
-moved Clear Post = Out
-moved Clear Send = Clear
-moved Clear Park = Clear
-moved Clear Collect = Clear
-moved Out Post = Out
-moved Out Send = Clear
-moved Out Park = Parked
-moved Out Collect = Out
-moved Parked Post = Parked
-moved Parked Send = Parked
-moved Parked Park = Parked
-moved Parked Collect = Out
+abbrev pub docket_after : DocketState → DocketEvent → DocketState
+docket_after Clear Post = Out
+docket_after Clear Send = Clear
+docket_after Clear Park = Clear
+docket_after Clear Collect = Clear
+docket_after Out Post = Out
+docket_after Out Send = Clear
+docket_after Out Park = Parked
+docket_after Out Collect = Out
+docket_after Parked Post = Parked
+docket_after Parked Send = Parked
+docket_after Parked Park = Parked
+docket_after Parked Collect = Out
 
 -- the clock's entry at p
 abbrev pub clock_at : Seat → ℕ → ℕ
 clock_at seat p = entry_at seat.clock p
 
 -- the docket's state moved by an event
-abbrev pub docketed : Seat → DocketEvent → Seat
-docketed seat e = record { clock = seat.clock; held = seat.held; docket = moved seat.docket e }
+abbrev pub with_docket_event : Seat → DocketEvent → Seat
+with_docket_event seat e = record { clock = seat.clock; held = seat.held; docket = docket_after seat.docket e }
 
 -- the clock's entry at p set to n
-abbrev pub clocked : Seat → ℕ → ℕ → Seat
-clocked seat p n = record { clock = record { entries = slice_set seat.clock.entries p n }; held = seat.held; docket = seat.docket }
+abbrev pub with_clock_entry : Seat → ℕ → ℕ → Seat
+with_clock_entry seat p n = record { clock = record { entries = slice_set seat.clock.entries p n }; held = seat.held; docket = seat.docket }
 
 -- the clock's entry at s one higher
-abbrev pub raised : Seat → ℕ → Seat
-raised seat s = clocked seat s (clock_at seat s + 1)
+abbrev pub with_clock_raised : Seat → ℕ → Seat
+with_clock_raised seat s = with_clock_entry seat s (clock_at seat s + 1)
 
 -- one held letter less
-abbrev pub released : Seat → Seat
-released seat = record { clock = seat.clock; held = seat.held - 1; docket = seat.docket }
+abbrev pub with_one_held_less : Seat → Seat
+with_one_held_less seat = record { clock = seat.clock; held = seat.held - 1; docket = seat.docket }
 
 -- one held letter more
-abbrev pub holding : Seat → Seat
-holding seat = record { clock = seat.clock; held = seat.held + 1; docket = seat.docket }
+abbrev pub with_one_held_more : Seat → Seat
+with_one_held_more seat = record { clock = seat.clock; held = seat.held + 1; docket = seat.docket }
 
 -- the length of a seat's log is the sum of its clock
 abbrev pub log_length : Seat → ℕ

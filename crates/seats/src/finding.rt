@@ -3,7 +3,7 @@ ghost use Rattle.std.specs.Prelude.{◌≡◌};
 ghost use Rattle.std.specs.Option.{option_map};
 ghost use Rattle.letters.specs.Letters.{entry_at};
 ghost use Rattle.letters.specs.Order.{Ready, ready};
-ghost use Rattle.seats.specs.Outcomes.{first, is_called};
+ghost use Rattle.seats.specs.Outcomes.{first_passing, is_called};
 ghost use Rattle.seats.specs.Scans.{FirstSuch, due};
 
 use letters::letter::Letter;
@@ -15,7 +15,7 @@ pub fn find_named<B: Copy>(
     poster: u8,
     number: u16,
 ) -> Option<(usize, &Letter<B>)>
-    ensures { option_map (λ p. (p.0, p.1.now)) result ≡ first (is_called poster number) 0 letters.now }
+    ensures { option_map (λ p. (p.0, p.1.now)) result ≡ first_passing (is_called poster number) 0 letters.now }
 {
     // No letter is copied: not those that are looked at, and not the one that is found.
     for (at, letter) in letters.iter().enumerate() {
@@ -41,7 +41,7 @@ pub fn first_ready<'h, B: Copy>(
     seat: u8,
     clock: &Stamp,
 ) -> Option<(usize, &'h Letter<B>)>
-    ensures answer { option_map (λ p. (p.0, p.1.now)) result ≡ first (ready count quota seat clock.now) 0 hold.now }
+    ensures answer { option_map (λ p. (p.0, p.1.now)) result ≡ first_passing (ready count quota seat clock.now) 0 hold.now }
     ensures decides { FirstSuch (Ready count quota seat (entry_at clock.now)) hold.now (option_map (λ p. (p.0, p.1.now)) result) }
 {
     'arrivals: for (at, letter) in hold.iter().enumerate() {

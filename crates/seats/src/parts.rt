@@ -1,6 +1,6 @@
 // Tables of letters, and parts of them.
 ghost use Rattle.std.specs.Prelude.{◌≡◌, ◌+◌, length, take, drop, if◌then◌else◌, nat_lt, slice_set};
-ghost use Rattle.seats.specs.Rooms.{closed};
+ghost use Rattle.seats.specs.Rooms.{table_closed_up};
 
 // The part of a table that begins at a place and has so many elements, as far as the table goes.
 pub fn part<T>(table: &[T], start: usize, len: usize) -> &[T]
@@ -22,7 +22,7 @@ pub fn put<T: Copy>(table: &mut [T], at: usize, element: T)
 
 // Moves the elements behind a place down by one; where so many do not stand behind it, nothing moves.
 pub fn close_up<T: Copy>(table: &mut [T], at: usize, behind: usize)
-    ensures { table.new ≡ (if nat_lt (at + behind) (length table.old) then closed table.old at behind else table.old) }
+    ensures { table.new ≡ (if nat_lt (at + behind) (length table.old) then table_closed_up table.old at behind else table.old) }
 {
     if behind >= table.len() || at >= table.len() - behind {
         return;

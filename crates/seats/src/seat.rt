@@ -1,6 +1,6 @@
 // A seat of a room.
 ghost use Rattle.std.specs.Prelude.{◌≡◌, if◌then◌else◌, nat_lt};
-ghost use Rattle.seats.specs.Seats.{allows, clock_at, clocked, docketed, holding, log_length, raised, released};
+ghost use Rattle.seats.specs.Seats.{allows, clock_at, log_length, with_clock_entry, with_clock_raised, with_docket_event, with_one_held_less, with_one_held_more};
 
 use crate::parts::put;
 use causality::docket::DocketState;
@@ -27,7 +27,7 @@ impl Seat {
     // Moves the docket's state, or answers false and leaves it.
     pub fn move_docket(&mut self, event: DocketEvent) -> bool
         ensures answer { result ≡ allows self.old.docket event }
-        ensures seat { self.new ≡ docketed self.old event }
+        ensures seat { self.new ≡ with_docket_event self.old event }
     {
         match (self.docket, event) {
             (DocketState::Clear, DocketEvent::Post) => self.docket = DocketState::Out,
@@ -41,7 +41,7 @@ impl Seat {
 
     // Sets the clock's entry for a seat; past the sixteen there is none.
     pub fn set_clock(&mut self, poster: u8, number: u16)
-        ensures { self.new ≡ clocked self.old poster number }
+        ensures { self.new ≡ with_clock_entry self.old poster number }
     {
         put(&mut self.clock.entries, poster as usize, number);
     }
@@ -49,7 +49,7 @@ impl Seat {
     // Raises the clock's entry for a seat by one, or answers false and leaves it where it is not below the quota.
     pub fn raise(&mut self, own: u8, quota: u16) -> bool
         ensures answer { result ≡ nat_lt (clock_at self.old own) quota }
-        ensures seat { self.new ≡ (if result then raised self.old own else self.old) }
+        ensures seat { self.new ≡ (if result then with_clock_raised self.old own else self.old) }
     {
         let number = self.clock.entry(own);
         if number >= quota {
@@ -62,7 +62,7 @@ impl Seat {
     // One held letter more, or false where the hold has no place.
     pub fn hold(&mut self, places: u16) -> bool
         ensures answer { result ≡ nat_lt self.old.held places }
-        ensures seat { self.new ≡ (if result then holding self.old else self.old) }
+        ensures seat { self.new ≡ (if result then with_one_held_more self.old else self.old) }
     {
         if self.held >= places {
             return false;
@@ -73,7 +73,7 @@ impl Seat {
 
     // One held letter less.
     pub fn release(&mut self)
-        ensures { self.new ≡ released self.old }
+        ensures { self.new ≡ with_one_held_less self.old }
     {
         self.held = self.held.saturating_sub(1);
     }

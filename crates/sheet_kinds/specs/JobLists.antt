@@ -54,22 +54,22 @@ CodesFollow =
     (m : Letter Job) (jobs : List OpenJob) (p n : ℕ) → code_in (job_does m.body m jobs) p n ≡ code_after m.body m p n (code_in jobs p n)
 
 -- how many letters are entered, and the open jobs
-pub record Listed : Type 0 where
+pub record JobListMeaning : Type 0 where
   pub count : ℕ
   pub jobs : List OpenJob
 
 -- a job list with nothing entered
-abbrev pub no_jobs : Listed
+abbrev pub no_jobs : JobListMeaning
 no_jobs = record { count = 0; jobs = [] }
 
 -- a letter does what its body says, and is counted
-abbrev pub job_entered : Listed → Letter Job → Listed
+abbrev pub job_entered : JobListMeaning → Letter Job → JobListMeaning
 job_entered m x = record { count = m.count + 1; jobs = job_does x.body x m.jobs }
 
 -- the kind of sheet that job lists are
-abbrev pub job_list_kind : Kind Listed Job
+abbrev pub job_list_kind : Kind JobListMeaning Job
 job_list_kind = record { places = PLACES; count = λ m. m.count; empty = no_jobs; entered = job_entered }
 
 -- what a job list means: the rows in use
-abbrev pub listed_by : JobList → Listed
-listed_by s = record { count = s.entered; jobs = s.rows.items }
+abbrev pub job_list_of : JobList → JobListMeaning
+job_list_of s = record { count = s.entered; jobs = s.rows.items }

@@ -2,4 +2,4 @@ pub mod RowOrder
 pub mod Timelines
 pub mod OpenJobs
 pub mod JobLists
-pub mod JobSwaps
+pub mod JobSwapLemmas

@@ -1,6 +1,6 @@
 -- Two lists of the same elements, in each of which none is related to a later one, give the same result.
 use Rattle.std.proofs.Common.{◌≡◌, ℕ, suc, ◌+◌, ◌<◌, ◌≤◌, ◌⊎◌, List, [], ◌∷◌, length, fold, sym, refl, ap, ◌∙◌, subst, inl, inr, arith}
-use Rattle.letters.specs.Lists.{Apart, SameElements, ◌∈◌, here, there}
+use Rattle.letters.specs.Lists.{NoPair, SameElements, ◌∈◌, here, there}
 
 -- zs is ys with one x taken out
 data Without {L : Type 0} (x : L) : List L → List L → Type 0 where
@@ -38,17 +38,17 @@ module _ {L : Type 0} where
 
 -- R relates each element to itself, so that no element stands twice where none is related to a later one
 module _ {L : Type 0} (R : L → L → Type 0) (itself : (x : L) → R x x) where
-  still_apart : {x : L} {ys zs : List L} → Without x ys zs → Apart R ys → Apart R zs
+  still_apart : {x : L} {ys zs : List L} → Without x ys zs → NoPair R ys → NoPair R zs
   still_apart first o = o.1
   still_apart (later w) o = (λ z i. o.0 z (still_in w z i), still_apart w o.1)
 
-  no_longer_in : {x : L} {ys zs : List L} → Without x ys zs → Apart R ys → x ∈ zs → ⊥
+  no_longer_in : {x : L} {ys zs : List L} → Without x ys zs → NoPair R ys → x ∈ zs → ⊥
   no_longer_in {x} first o i = o.0 x i (itself x)
   no_longer_in {x} (later w) o (here e) = o.0 x (was_in w) (subst (λ (z : L). R z x) e (itself x))
   no_longer_in {x} (later w) o (there i) = no_longer_in w o.1 i
 
   -- what is left of two lists of the same elements, with the same one taken out
-  same_left : {x : L} (xs : List L) {ys zs : List L} → Apart R (x ∷ xs) → Apart R ys → SameElements (x ∷ xs) ys →
+  same_left : {x : L} (xs : List L) {ys zs : List L} → NoPair R (x ∷ xs) → NoPair R ys → SameElements (x ∷ xs) ys →
       Without x ys zs → SameElements xs zs
   same_left {x} xs {ys} {zs} ox oy same w z = (forth, back)
     where
@@ -62,7 +62,7 @@ module _ {L : Type 0} (R : L → L → Type 0) (itself : (x : L) → R x x) wher
       (adds : (m : M) (x : L) → count m < places → count (enter m x) ≡ count m + 1)
       (commutes : (m : M) (x y : L) → count m + 2 ≤ places → ¬ (R x y) → ¬ (R y x) → enter (enter m x) y ≡ enter (enter m y) x) where
     -- an element that is related to none of the others may be entered first
-    to_front : {x : L} {ys zs : List L} (m : M) → Without x ys zs → Apart R ys → ((z : L) → z ∈ zs → ¬ (R x z)) →
+    to_front : {x : L} {ys zs : List L} (m : M) → Without x ys zs → NoPair R ys → ((z : L) → z ∈ zs → ¬ (R x z)) →
         count m + length ys ≤ places → fold enter m ys ≡ fold enter (enter m x) zs
     to_front m first o free fits = refl
     to_front {x} m (later {y} {ys} {zs} w) o free fits =
@@ -76,7 +76,7 @@ module _ {L : Type 0} (R : L → L → Type 0) (itself : (x : L) → R x x) wher
       long : length xs ≡ length ys
       same : fold enter m xs ≡ fold enter m ys
 
-    agree : (m : M) (xs ys : List L) → Apart R xs → Apart R ys → SameElements xs ys → count m + length xs ≤ places → Agree m xs ys
+    agree : (m : M) (xs ys : List L) → NoPair R xs → NoPair R ys → SameElements xs ys → count m + length xs ≤ places → Agree m xs ys
     agree m [] [] ox oy same fits = record { long = refl; same = refl }
     agree m [] (y ∷ ys) ox oy same fits = absurd (elim ((same y).1 (here refl)) [ ])
     agree m (x ∷ xs) ys ox oy same fits =
@@ -92,5 +92,5 @@ module _ {L : Type 0} (R : L → L → Type 0) (itself : (x : L) → R x x) wher
           same = rest.same ∙ sym (to_front m w oy (λ z i. ox.0 z ((left z).1 i)) (omega arith));
         }
 
-    pub same_fold : (m : M) (xs ys : List L) → Apart R xs → Apart R ys → SameElements xs ys → count m + length xs ≤ places → fold enter m xs ≡ fold enter m ys
+    pub same_fold : (m : M) (xs ys : List L) → NoPair R xs → NoPair R ys → SameElements xs ys → count m + length xs ≤ places → fold enter m xs ≡ fold enter m ys
     same_fold m xs ys ox oy same fits = (agree m xs ys ox oy same fits).same

@@ -2,7 +2,7 @@
 use Rattle.std.proofs.Common.{◌≡◌, Bool, true, false, not, List, [], ◌∷◌, refl, inl, inr, arith}
 use Rattle.std.specs.Cmp.{IsStrictWeakOrder}
 use Rattle.std.proofs.lemmas.Bool.{cases_Bool, and_parts, and_from, not_from_false}
-use Rattle.sheets.specs.OrderLaws.{beyond, not_itself}
+use Rattle.sheets.specs.OrderLemmas.{beyond, not_itself}
 use Rattle.sheets.specs.Placing.{in_order, passes_each, placed}
 
 module _ {X : Type 0} (after : X → X → Bool) (laws : IsStrictWeakOrder after) where

@@ -4,7 +4,7 @@ use Rattle.std.proofs.Common.{◌≡◌, Bool, true, false, ◌||◌, List, [], 
 use Rattle.std.specs.Cmp.{IsStrictWeakOrder}
 use Rattle.std.proofs.lemmas.Bool.{cases_Bool, and_parts, and_from}
 use Rattle.std.proofs.lemmas.Bool.Decides.{nat_tests}
-use Rattle.sheets.specs.OrderLaws.{past_level}
+use Rattle.sheets.specs.OrderLemmas.{past_level}
 use Rattle.sheets.specs.Placing.{passes_each, placed, rising, with_row}
 use Rattle.sheets.proofs.Rising.{all_kept, none_kept, pairs_pass_kept, passes_each_kept}
 

@@ -2,10 +2,10 @@
 use Rattle.std.proofs.Common.{le_refl, arith}
 use Rattle.letters.specs.Letters.{number_of}
 use Rattle.letters.specs.Order.{CoversLetter}
-use Rattle.sheets.specs.Sheets.{Converges, Kind, Lawful}
+use Rattle.sheets.specs.Sheets.{Converges, Kind, LawfulKind}
 use Rattle.sheets.proofs.Converge.{same_fold}
 
-module _ {M B : Type 0} (kind : Kind M B) (laws : Lawful kind) where
+module _ {M B : Type 0} (kind : Kind M B) (laws : LawfulKind kind) where
   pub converges : Converges kind
   converges log other fits once once-too ordered ordered-too same =
       let starts = laws.starts in

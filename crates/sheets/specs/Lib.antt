@@ -1,7 +1,7 @@
 pub mod Pages
 pub mod Sheets
 pub mod Placing
-pub mod OrderLaws
-pub mod Beside
-pub mod Filters
-pub mod Rows
+pub mod OrderLemmas
+pub mod BesideLemmas
+pub mod FilterLemmas
+pub mod RowLemmas

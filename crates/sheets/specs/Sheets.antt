@@ -4,17 +4,17 @@ use Rattle.letters.specs.declared.letter.Letter.{Letter}
 use Rattle.letters.specs.Order.{SideBySide}
 use Rattle.letters.specs.Refusals.{Reason, unless}
 use Rattle.letters.specs.Lists.{SameElements}
-use Rattle.letters.specs.Logs.{Once, Ordered}
+use Rattle.letters.specs.Logs.{CausallyOrdered, NoDuplicates}
 
 -- the answer of an outcome: accepted, or the reason of the refusal
-abbrev pub answered : {M : Type 0} → Result M Reason → Result (Unit {0}) Reason
-answered (Ok after) = Ok tt
-answered (Err why) = Err why
+abbrev pub acceptance : {M : Type 0} → Result M Reason → Result (Unit {0}) Reason
+acceptance (Ok after) = Ok tt
+acceptance (Err why) = Err why
 
 -- what a sheet means after an outcome: a refusal leaves it as it was
-abbrev pub left_by : {M : Type 0} → Result M Reason → M → M
-left_by (Ok after) before = after
-left_by (Err why) before = before
+abbrev pub meaning_left : {M : Type 0} → Result M Reason → M → M
+meaning_left (Ok after) before = after
+meaning_left (Err why) before = before
 
 -- a kind of sheet: M is what its sheets can mean, and B the type of its letters' bodies
 pub record Kind (M B : Type 0) : Type 0 where
@@ -46,7 +46,7 @@ module _ {M B : Type 0} (kind : Kind M B) where
     pub counted : kind.count m ≡ i
 
   -- what every kind of sheet keeps
-  pub record Lawful : Type 0 where
+  pub record LawfulKind : Type 0 where
     -- nothing is entered on an empty sheet
     pub starts : kind.count kind.empty ≡ 0
     -- where not exactly as many letters are entered as there are places, entering adds one to the count
@@ -60,5 +60,5 @@ module _ {M B : Type 0} (kind : Kind M B) where
   abbrev pub Converges : Type 0
   Converges =
       (log other : List (Letter B)) → length log ≤ kind.places
-      → Once log → Once other → Ordered log → Ordered other → SameElements log other
+      → NoDuplicates log → NoDuplicates other → CausallyOrdered log → CausallyOrdered other → SameElements log other
       → drawn_up log ≡ drawn_up other

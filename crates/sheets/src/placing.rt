@@ -7,7 +7,7 @@ ghost use Rattle.sheets.specs.Placing.{place_among, placed, placed_within};
 use arrayvec::ArrayVec;
 
 // A type of rows that have an order. Of two rows that differ, neither need stand after the other.
-pub trait Placed: Copy {
+pub trait OrderedRow: Copy {
     ghost after: { Self → Self → Bool };
 
     // Whether this row stands after a new one.
@@ -18,8 +18,8 @@ pub trait Placed: Copy {
 }
 
 // The place of the first row that stands after the new one, or the number of rows.
-fn place_for<T: Placed>(rows: &[T], new: &T) -> usize
-    ensures place { result ≡ place_among T.Placed.after rows.now new.now }
+fn place_for<T: OrderedRow>(rows: &[T], new: &T) -> usize
+    ensures place { result ≡ place_among T.OrderedRow.after rows.now new.now }
     ensures within { result ≤ length rows.now }
 {
     rows.iter()
@@ -28,9 +28,9 @@ fn place_for<T: Placed>(rows: &[T], new: &T) -> usize
 }
 
 // Puts a row where it belongs, and says whether a place was free; where none was, the rows stay.
-pub fn insert<T: Placed, const N: usize>(rows: &mut ArrayVec<T, N>, new: T) -> bool
+pub fn insert<T: OrderedRow, const N: usize>(rows: &mut ArrayVec<T, N>, new: T) -> bool
     ensures answer { result ≡ nat_lt (array_vec_len rows.old) N }
-    ensures rows { rows.new.items ≡ placed_within T.Placed.after N rows.old.items new }
+    ensures rows { rows.new.items ≡ placed_within T.OrderedRow.after N rows.old.items new }
     ensures untouched { N ≤ array_vec_len rows.old → rows.new ≡ rows.old }
     ensures len { array_vec_len rows.new ≡ cond result (array_vec_len rows.old + 1) (array_vec_len rows.old) }
 {

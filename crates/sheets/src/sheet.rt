@@ -1,7 +1,7 @@
 // Sheets of every kind, and how a log is drawn up on one.
 ghost use Rattle.std.specs.Prelude.{◌≡◌, ℕ, ◌<◌, length};
-ghost use Rattle.letters.specs.Refusals.{told};
-ghost use Rattle.sheets.specs.Sheets.{Converges, Kind, Lawful, answered, draw_up_outcome, enter_outcome, left_by};
+ghost use Rattle.letters.specs.Refusals.{as_answer};
+ghost use Rattle.sheets.specs.Sheets.{Converges, Kind, LawfulKind, acceptance, draw_up_outcome, enter_outcome, meaning_left};
 
 use letters::body::Body;
 use letters::letter::Letter;
@@ -35,19 +35,19 @@ pub trait Sheet {
 
     // Enters a letter; 18 where no place is free, and the sheet's meaning stays.
     fn enter(&mut self, letter: &Letter<Self::Body>) -> Result<(), Refusal>
-        ensures answer { told (λ u. u) result ≡ answered (enter_outcome kind (meaning self.old) letter.now) }
-        ensures leaves { meaning self.new ≡ left_by (enter_outcome kind (meaning self.old) letter.now) (meaning self.old) };
+        ensures answer { as_answer (λ u. u) result ≡ acceptance (enter_outcome kind (meaning self.old) letter.now) }
+        ensures leaves { meaning self.new ≡ meaning_left (enter_outcome kind (meaning self.old) letter.now) (meaning self.old) };
 
     ghost sized: { kind.places ≡ PLACES };
 
-    ghost lawful: { Lawful kind };
+    ghost lawful: { LawfulKind kind };
 }
 
 // Clears the sheet and enters the letters of the log from the top; 17 where the log is longer than the sheet has places.
 // Two logs that hold the same letters, in whatever causal orders, give the same meaning.
 pub fn draw_up<K: Sheet>(sheet: &mut K, log: &[Letter<K::Body>]) -> Result<(), Refusal>
-    ensures answer { told (λ u. u) result ≡ answered (draw_up_outcome K.Sheet.kind log.now) }
-    ensures leaves { K.Sheet.meaning sheet.new ≡ left_by (draw_up_outcome K.Sheet.kind log.now) (K.Sheet.meaning sheet.old) }
+    ensures answer { as_answer (λ u. u) result ≡ acceptance (draw_up_outcome K.Sheet.kind log.now) }
+    ensures leaves { K.Sheet.meaning sheet.new ≡ meaning_left (draw_up_outcome K.Sheet.kind log.now) (K.Sheet.meaning sheet.old) }
     ensures untouched { K.Sheet.kind.places < length log.now → sheet.new ≡ sheet.old }
     ensures converges { Converges K.Sheet.kind }
 {

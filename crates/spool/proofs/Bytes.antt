@@ -6,7 +6,7 @@ use Rattle.carriers.proofs.Rows.{other_queue}
 use Rattle.records.specs.declared.record.TheConstants.{RECORD_SIZE}
 use Rattle.records.specs.Buffers.{overlaid}
 use Rattle.records.proofs.Overlays.{overlaid-after}
-use Rattle.spool.specs.declared.tape.TheConstants.{ROW_SIZE}
+use Rattle.spool.specs.declared.row_buffer.TheConstants.{ROW_SIZE}
 use Rattle.spool.specs.Rows.{mask_of, record_part, row_at}
 
 pub byte_at : (bytes : List ℕ) (row k : ℕ) → k < ROW_SIZE → get_or (row_at bytes row) k 0 ≡ get_or bytes (row * ROW_SIZE + k) 0

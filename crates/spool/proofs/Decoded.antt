@@ -3,11 +3,11 @@ use Rattle.std.proofs.Common.{◌≡◌, ℕ, Bool, true, false, List, length, t
 use Rattle.std.proofs.lemmas.List.{take_all}
 use Rattle.std.proofs.lemmas.Bool.{and_from, both_ways, eq-eqb}
 use Rattle.letters.specs.declared.letter.Letter.{Letter}
-use Rattle.letters.specs.Forms.{Form, Lawful}
+use Rattle.letters.specs.Forms.{Form, LawfulForm}
 use Rattle.letters.specs.declared.parts.Parts.{Parts}
 use Rattle.letters.specs.Letters.{blank_letter, parts_of}
 use Rattle.letters.specs.ChecksLemmas.{some_none}
-use Rattle.letters.specs.Same.{same_letter}
+use Rattle.letters.specs.SameLemmas.{equal_letters}
 use Rattle.letters.proofs.Passing.{letter_is}
 use Rattle.records.specs.declared.fault.Fault.{Fault}
 use Rattle.records.specs.Faults.{fault_reason}
@@ -25,7 +25,7 @@ module _ {B : Type 0} (blank : B) where
 
   or_is : (m : Letter B) (p : Parts B) (can : Bool) (e : letter_parts p ≡ can) → p ≡ parts_of m → letter_or blank p can e ≡ m
   unfolding letter_or
-  or_is m p true e same = same_letter _ m (ap (λ q. q.stamp) same) (ap (λ q. q.poster) same) (ap (λ q. q.body) same)
+  or_is m p true e same = equal_letters _ m (ap (λ q. q.stamp) same) (ap (λ q. q.poster) same) (ap (λ q. q.body) same)
   or_is m p false e same = absurd (both_ways (letter_parts p) e (ap letter_parts same ∙ can_be m))
 
   read_is : (m : Letter B) (p : Parts B) (f : Option ℕ) → f ≡ None → p ≡ parts_of m → letter_read blank p f ≡ m
@@ -38,7 +38,7 @@ module _ {B : Type 0} (blank : B) where
   read_bad p None place e = some_none place (sym e)
   read_bad p (Some other) place e = refl
 
-  module _ (form : Form B) (laws : Lawful form) where
+  module _ (form : Form B) (laws : LawfulForm form) where
     -- reading undoes writing
     pub letter_back : (m : Letter B) → letter_of form blank (record_of form m) ≡ m
     letter_back m = read_is m _ _ (record_right form laws m) (written_back form laws (parts_of m) m.sized)

@@ -9,7 +9,7 @@ use Rattle.std.specs.Option.{option_map, unwrap_or}
 use Rattle.std.specs.Result.{result_unwrap_or}
 use Rattle.std.specs.Simd.{first_chunks}
 use Rattle.spool.specs.Masks.{marked}
-use Rattle.spool.specs.declared.tape.TheConstants.{ROW_SIZE}
+use Rattle.spool.specs.declared.row_buffer.TheConstants.{ROW_SIZE}
 use Rattle.spool.specs.Rows.{marks_at, mask_of, picks, row_at}
 use Rattle.spool.proofs.Picks.{picks_yes, picks_not}
 

@@ -11,7 +11,7 @@ use Rattle.spool.specs.declared.Spool.{Spool}
 use Rattle.letters.specs.Forms.{Form}
 use Rattle.spool.specs.Decoding.{letter_of}
 use Rattle.spool.specs.Spools.{RowStruck, StandsAt, StrikesRow, spool_meaning, spool_of}
-use Rattle.spool.specs.SpoolLaws.{no_bit}
+use Rattle.spool.specs.SpoolLemmas.{no_bit}
 use Rattle.spool.proofs.Bits.{cleared, other_bit, full_bit}
 use Rattle.spool.proofs.Picks.{picks_same, picks_clear, picks_close, picks_grow}
 
@@ -115,7 +115,7 @@ nobody_else letter seats rows b poster x h none k =
     sym (cond-false _ _ _ (sym (but_marks seats poster k h) ∙ ap (λ m. marked m k) none ∙ no_bit 0 0 k (omega arith) (omega arith)))
 
 -- a row's lot, by what is left in its mask
-pub struck : {B : Type 0} (s : Spool B) (row seat : ℕ) (after : Spool B) (t : Bool) → t ≡ (count_ones (bit_xor (mask_of (row_at s.tape.bytes.now row)) (2 ^ seat)) == 0)
+pub struck : {B : Type 0} (s : Spool B) (row seat : ℕ) (after : Spool B) (t : Bool) → t ≡ (count_ones (bit_xor (mask_of (row_at s.row_buffer.bytes.now row)) (2 ^ seat)) == 0)
     → RowStruck t s row seat after → StrikesRow s row seat after
 struck s row seat after t e lot = subst (λ u. RowStruck u s row seat after) e lot
 
@@ -123,4 +123,4 @@ struck s row seat after t e lot = subst (λ u. RowStruck u s row seat after) e l
 pub stands_below : {B : Type 0} (form : Form B) (blank : B) (s : Spool B) (seat place row : ℕ) → StandsAt form blank s seat place (Some row) → place < length ((spool_of form blank s).waiting seat)
 stands_below form blank s seat place row f =
     subst (λ p. p < length ((spool_of form blank s).waiting seat)) f.2
-    (picks_grow (marks_at s.tape.bytes.now seat) (letters_at (letter_of form blank) s.tape.bytes.now) row s.rows f.0 f.1)
+    (picks_grow (marks_at s.row_buffer.bytes.now seat) (letters_at (letter_of form blank) s.row_buffer.bytes.now) row s.rows f.0 f.1)

@@ -1,6 +1,6 @@
 pub mod Masks
-pub mod MaskLaws
+pub mod MaskLemmas
 pub mod Rows
 pub mod Decoding
 pub mod Spools
-pub mod SpoolLaws
+pub mod SpoolLemmas

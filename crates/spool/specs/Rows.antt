@@ -5,7 +5,7 @@ use Rattle.letters.specs.Refusals.{Reason, unless}
 use Rattle.carriers.specs.Places.{part_at}
 use Rattle.carriers.specs.Meaning.{seats_right}
 use Rattle.records.specs.declared.record.TheConstants.{RECORD_SIZE}
-use Rattle.spool.specs.declared.tape.TheConstants.{ROW_SIZE}
+use Rattle.spool.specs.declared.row_buffer.TheConstants.{ROW_SIZE}
 use Rattle.spool.specs.Masks.{marked}
 
 -- what the check before a spool is made answers, for so many bytes brought

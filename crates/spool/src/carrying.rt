@@ -1,21 +1,21 @@
 // Making a spool, and a spool as a carrier.
 ghost use Rattle.std.specs.Prelude.{◌≡◌, ◌<◌, true, length, Ok, OnOk, slice_get};
 ghost use Rattle.letters.specs.Letters.{parts_of};
-ghost use Rattle.letters.specs.Refusals.{told};
+ghost use Rattle.letters.specs.Refusals.{as_answer};
 ghost use Rattle.carriers.specs.Appending.{Appends};
 ghost use Rattle.carriers.specs.Meaning.{DrawLeaves, Drawn, Empty, PutLeaves, draw_answer, put_answer};
-ghost use Rattle.carriers.specs.Resting.{as_it_was};
+ghost use Rattle.carriers.specs.RestingLemmas.{as_it_was};
 ghost use Rattle.std.specs.Result.{OnErr};
 ghost use Rattle.std.specs.List.{count_by, enumerate_from, filter};
 ghost use Rattle.std.specs.Option.{option_map};
 ghost use Rattle.spool.specs.Masks.{marked};
 ghost use Rattle.spool.specs.Rows.{mask_of, marks_at, spool_answer};
-ghost use Rattle.spool.specs.SpoolLaws.{lawful_spool};
+ghost use Rattle.spool.specs.SpoolLemmas.{lawful_spool};
 ghost use Rattle.spool.specs.Spools.{AddsRow, DrawsRow, StandsAt, StrikesRow, place_of, spool_of};
 
 use crate::Spool;
 use crate::masks::{all_but, is_done, marks};
-use crate::tape::{ROW_SIZE, Tape, mask_of};
+use crate::row_buffer::{ROW_SIZE, RowBuffer, mask_of};
 use carriers::carrier::Carrier;
 use letters::body::Body;
 use letters::letter::Letter;
@@ -26,7 +26,7 @@ use std::marker::PhantomData;
 impl<'a, B: Body> Spool<'a, B> {
     // Whether a spool for so many seats can be made of the bytes: 6, then 5.
     pub fn check(buffer: &[u8], seats: u8) -> Result<(), Refusal>
-        ensures { told (λ u. u) result ≡ spool_answer seats (length buffer.now) }
+        ensures { as_answer (λ u. u) result ≡ spool_answer seats (length buffer.now) }
     {
         if seats == 0 || seats > 16 {
             return Err(Refusal::WrongSeatCount);
@@ -42,10 +42,10 @@ impl<'a, B: Body> Spool<'a, B> {
         requires { spool_answer seats (length buffer.old) ≡ Ok tt }
         ensures seats { result.seats ≡ seats }
         ensures empty { Empty (spool_of B.form B.blank result) }
-        ensures buffer { (result.tape.bytes.now ≡ buffer.old) × (result.tape.bytes.ghost_name ≡ buffer.entry.ghost_name) }
+        ensures buffer { (result.row_buffer.bytes.now ≡ buffer.old) × (result.row_buffer.bytes.ghost_name ≡ buffer.entry.ghost_name) }
     {
         Spool {
-            tape: Tape { bytes: buffer },
+            row_buffer: RowBuffer { bytes: buffer },
             rows: 0,
             seats,
             body: PhantomData,
@@ -60,7 +60,7 @@ impl<'a, B: Body> Spool<'a, B> {
         if place == u32::MAX {
             return None;
         }
-        let (row, _) = nth_marked(self.tape.rows(self.rows), seat, place as usize)?;
+        let (row, _) = nth_marked(self.row_buffer.rows(self.rows), seat, place as usize)?;
         Some(row)
     }
 
@@ -68,18 +68,18 @@ impl<'a, B: Body> Spool<'a, B> {
     fn strike(&mut self, row: usize, seat: u8)
         requires seat { seat < self.old.seats }
         requires row { row < self.old.rows }
-        requires marked { marks_at self.old.tape.bytes.now seat row ≡ true }
+        requires marked { marks_at self.old.row_buffer.bytes.now seat row ≡ true }
         ensures lists { Drawn (spool_of B.form B.blank self.old) seat (place_of B.form B.blank self.old seat row) (spool_of B.form B.blank self.new) }
         ensures row { StrikesRow self.old row seat self.new }
-        ensures long { length self.new.tape.bytes.now ≡ length self.old.tape.bytes.now }
-        ensures lender { self.new.tape.bytes.ghost_name ≡ self.old.tape.bytes.ghost_name }
+        ensures long { length self.new.row_buffer.bytes.now ≡ length self.old.row_buffer.bytes.now }
+        ensures lender { self.new.row_buffer.bytes.ghost_name ≡ self.old.row_buffer.bytes.ghost_name }
     {
-        let left = mask_of(&self.tape.rows(self.rows)[row]) ^ (1 << seat);
+        let left = mask_of(&self.row_buffer.rows(self.rows)[row]) ^ (1 << seat);
         if is_done(left) {
-            self.tape.close_up(row, self.rows);
+            self.row_buffer.close_up(row, self.rows);
             self.rows -= 1;
         } else {
-            self.tape.set_mask(row, left);
+            self.row_buffer.set_mask(row, left);
         }
     }
 }
@@ -124,21 +124,21 @@ impl<'a, B: Body> Carrier for Spool<'a, B> {
         if seat >= self.seats {
             return 0;
         }
-        let count = count_marked(self.tape.rows(self.rows), seat);
+        let count = count_marked(self.row_buffer.rows(self.rows), seat);
         u32::try_from(count).unwrap_or(u32::MAX)
     }
 
     fn fits(&self, poster: u8) -> bool {
-        poster < self.seats && self.tape.bytes.len() - self.rows * ROW_SIZE >= ROW_SIZE
+        poster < self.seats && self.row_buffer.bytes.len() - self.rows * ROW_SIZE >= ROW_SIZE
     }
 
     fn put(&mut self, letter: &Letter<B>) -> Result<(), Refusal>
-        ensures answer { told (λ u. u) result ≡ put_answer (spool_of B.form B.blank self.old) letter.now.poster }
+        ensures answer { as_answer (λ u. u) result ≡ put_answer (spool_of B.form B.blank self.old) letter.now.poster }
         ensures leaves { PutLeaves result (spool_of B.form B.blank self.old) letter.now.poster letter.now (spool_of B.form B.blank self.new) }
         ensures once { OnOk result (Appends (spool_of B.form B.blank self.old) letter.now.poster letter.now (spool_of B.form B.blank self.new)) }
         ensures row { AddsRow B.form result self.old letter.now self.new }
-        ensures long { length self.new.tape.bytes.now ≡ length self.old.tape.bytes.now }
-        ensures lender { self.new.tape.bytes.ghost_name ≡ self.old.tape.bytes.ghost_name }
+        ensures long { length self.new.row_buffer.bytes.now ≡ length self.old.row_buffer.bytes.now }
+        ensures lender { self.new.row_buffer.bytes.ghost_name ≡ self.old.row_buffer.bytes.ghost_name }
         ensures rests { OnErr result (self.new ≡ self.old) }
     {
         let poster = letter.poster();
@@ -150,19 +150,19 @@ impl<'a, B: Body> Carrier for Spool<'a, B> {
         }
         let mask = all_but(self.seats, poster);
         if !is_done(mask) {
-            self.tape.write(self.rows, letter);
-            self.tape.set_mask(self.rows, mask);
+            self.row_buffer.write(self.rows, letter);
+            self.row_buffer.set_mask(self.rows, mask);
             self.rows += 1;
         }
         Ok(())
     }
 
     fn draw(&mut self, seat: u8, place: u32, parts: &mut Parts<B>) -> Result<(), Refusal>
-        ensures answer { told (λ u. u) result ≡ draw_answer (spool_of B.form B.blank self.old) seat place }
+        ensures answer { as_answer (λ u. u) result ≡ draw_answer (spool_of B.form B.blank self.old) seat place }
         ensures leaves { DrawLeaves parts_of result (spool_of B.form B.blank self.old) seat place (spool_of B.form B.blank self.new) parts.old parts.new }
         ensures row { DrawsRow B.form B.blank result self.old seat place self.new }
-        ensures long { length self.new.tape.bytes.now ≡ length self.old.tape.bytes.now }
-        ensures lender { self.new.tape.bytes.ghost_name ≡ self.old.tape.bytes.ghost_name }
+        ensures long { length self.new.row_buffer.bytes.now ≡ length self.old.row_buffer.bytes.now }
+        ensures lender { self.new.row_buffer.bytes.ghost_name ≡ self.old.row_buffer.bytes.ghost_name }
         ensures rests { OnErr result (self.new ≡ self.old) }
     {
         if seat >= self.seats {
@@ -171,7 +171,7 @@ impl<'a, B: Body> Carrier for Spool<'a, B> {
         let Some(row) = self.find(seat, place) else {
             return Err(Refusal::UnknownPlace);
         };
-        self.tape.read(row, parts);
+        self.row_buffer.read(row, parts);
         self.strike(row, seat);
         Ok(())
     }

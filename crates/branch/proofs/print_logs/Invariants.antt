@@ -1,8 +1,8 @@
 use Rattle.std.proofs.Common.{◌≡◌, length, string_bytes}
 use Rattle.rooms.specs.States.{state}
-use Rattle.branch.specs.Lines.{log_lines}
+use Rattle.branch.specs.StepLines.{log_lines}
 use Rattle.branch.proofs.print_logs.Given as goal
 
 -- the lines of the seats so far
 abbrev pub invariant-loop-seat : goal.invariant-loop-seat
-invariant-loop-seat g l = string_bytes l.lines ≡ log_lines (state l.desk.room) l.desk.logs.now (length l.desk.holds.now) l.seat
+invariant-loop-seat g l = string_bytes l.lines ≡ log_lines (state l.session.room) l.session.logs.now (length l.session.holds.now) l.seat

@@ -2,11 +2,11 @@
 ghost use Rattle.std.specs.Prelude.{◌≡◌, ℕ, ◌+◌, ◌*◌, ◌<◌, Decides, [], ◌∷◌, ◌++◌, length, Ok, OnOk, slice_index, slice_index_or, slice_set};
 ghost use Rattle.std.specs.Result.{OnErr};
 ghost use Rattle.letters.specs.Letters.{parts_of};
-ghost use Rattle.letters.specs.Refusals.{told};
+ghost use Rattle.letters.specs.Refusals.{as_answer};
 ghost use Rattle.carriers.specs.Meaning.{DrawLeaves, Drawn, Empty, PutLeaves, draw_answer, put_answer};
-ghost use Rattle.carriers.specs.LineLaws.{lawful_lines};
+ghost use Rattle.carriers.specs.LineLemmas.{lawful_lines};
 ghost use Rattle.carriers.specs.Appending.{Appends};
-ghost use Rattle.carriers.specs.Resting.{as_it_was};
+ghost use Rattle.carriers.specs.RestingLemmas.{as_it_was};
 ghost use Rattle.carriers.specs.Lines.{HasPlaces, lines_answer, lines_of, table_drawn, table_put};
 
 use crate::carrier::Carrier;
@@ -20,7 +20,7 @@ use letters::refusal::Refusal;
 impl<'a, B: Body> Lines<'a, B> {
     // Whether lines for so many seats, each with a queue of so many places, can be made of the letters: 6, then 5.
     pub fn check(places: &[Letter<B>], seats: u8, size: u32) -> Result<(), Refusal>
-        ensures { told (λ u. u) result ≡ lines_answer seats size (length places.now) }
+        ensures { as_answer (λ u. u) result ≡ lines_answer seats size (length places.now) }
     {
         if seats == 0 || seats > 16 {
             return Err(Refusal::WrongSeatCount);
@@ -127,7 +127,7 @@ impl<'a, B: Body> Carrier for Lines<'a, B> {
     }
 
     fn put(&mut self, letter: &Letter<B>) -> Result<(), Refusal>
-        ensures answer { told (λ u. u) result ≡ put_answer (lines_of self.old) letter.now.poster }
+        ensures answer { as_answer (λ u. u) result ≡ put_answer (lines_of self.old) letter.now.poster }
         ensures leaves { PutLeaves result (lines_of self.old) letter.now.poster letter.now (lines_of self.new) }
         ensures once { OnOk result (Appends (lines_of self.old) letter.now.poster letter.now (lines_of self.new)) }
         ensures table { OnOk result (self.new.places.now ≡ table_put self.old letter.now) }
@@ -151,7 +151,7 @@ impl<'a, B: Body> Carrier for Lines<'a, B> {
     }
 
     fn draw(&mut self, seat: u8, place: u32, parts: &mut Parts<B>) -> Result<(), Refusal>
-        ensures answer { told (λ u. u) result ≡ draw_answer (lines_of self.old) seat place }
+        ensures answer { as_answer (λ u. u) result ≡ draw_answer (lines_of self.old) seat place }
         ensures leaves { DrawLeaves parts_of result (lines_of self.old) seat place (lines_of self.new) parts.old parts.new }
         ensures table { OnOk result (self.new.places.now ≡ table_drawn self.old seat place) }
         ensures lender { self.new.places.ghost_name ≡ self.old.places.ghost_name }

@@ -6,7 +6,7 @@ use Rattle.letters.specs.declared.refusal.Refusal.{Refusal}
 use Rattle.letters.specs.Letters.{parts_of}
 use Rattle.carriers.specs.Appending.{Appends}
 use Rattle.carriers.specs.Lines.{lines_of, put_places, table_drawn, table_put}
-use Rattle.carriers.specs.LineLaws.{lawful_lines, length_waiting}
+use Rattle.carriers.specs.LineLemmas.{lawful_lines, length_waiting}
 use Rattle.carriers.proofs.Decisions.{draw_ok, put_accepted, put_ok}
 use Rattle.delivery.specs.Passing.{and_then, delivery_answer, first_answer, parts_by}
 use Rattle.delivery.proofs.Client.{SomeFor, after_yes, first_drawn, first_ok, on_no, pass_ok, passed, some_waits}

@@ -2,7 +2,7 @@
 ghost use Rattle.std.specs.Prelude.{◌≡◌, sum, Ok};
 ghost use Rattle.letters.specs.Letters.{blank_letter, entry_at, letter_answer, letter_check, letter_name, number_of, parts_of};
 ghost use Rattle.letters.specs.Names.{name_of};
-ghost use Rattle.letters.specs.Refusals.{told};
+ghost use Rattle.letters.specs.Refusals.{as_answer};
 
 use crate::letter::Letter;
 use crate::letter_id::LetterId;
@@ -44,7 +44,7 @@ impl<B: Copy> Letter<B> {
 
     // The letter of any parts; those that no letter can have are refused with 20.
     pub fn new(parts: Parts<B>) -> Result<Letter<B>, Refusal>
-        ensures { told parts_of result ≡ letter_answer parts }
+        ensures { as_answer parts_of result ≡ letter_answer parts }
     {
         parts.check()?;
         Ok(Letter::make(parts))

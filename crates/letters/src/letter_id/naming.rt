@@ -1,7 +1,7 @@
 // Making, reading and writing names of letters.
 ghost use Rattle.std.specs.Prelude.{◌≡◌, ◌<◌, Some};
-ghost use Rattle.letters.specs.Names.{name, name_answer, name_of, name_text};
-ghost use Rattle.letters.specs.Refusals.{told};
+ghost use Rattle.letters.specs.Names.{name_answer, name_from, name_of, name_text};
+ghost use Rattle.letters.specs.Refusals.{as_answer};
 
 use crate::letter_id::LetterId;
 use crate::refusal::Refusal;
@@ -10,7 +10,7 @@ use std::fmt;
 impl LetterId {
     // The name with this poster and number; 20 where the poster is no seat or the number is 0.
     pub fn new(poster: u8, number: u16) -> Result<LetterId, Refusal>
-        ensures { told name_of result ≡ name_answer poster number }
+        ensures { as_answer name_of result ≡ name_answer poster number }
     {
         if poster >= 16 || number == 0 {
             return Err(Refusal::BadRecord);
@@ -21,7 +21,7 @@ impl LetterId {
     // The name of a letter, whose poster is a seat and whose number is not 0.
     pub(crate) fn of(poster: u8, number: u16) -> LetterId
         requires { (poster < 16) × (0 < number) }
-        ensures { name_of result ≡ name poster number }
+        ensures { name_of result ≡ name_from poster number }
     {
         LetterId { poster, number }
     }

@@ -3,7 +3,7 @@ ghost use Rattle.std.specs.Prelude.{◌≡◌, ◌≤◌, not, [], ◌++◌, len
 ghost use Rattle.std.specs.List.{position};
 ghost use Rattle.letters.specs.Characters.{printable, text_wrong};
 ghost use Rattle.letters.specs.Numbers.{padded};
-ghost use Rattle.letters.specs.Refusals.{told};
+ghost use Rattle.letters.specs.Refusals.{as_answer};
 ghost use Rattle.letters.specs.Texts.{text_answer, text_bytes, text_form, text_of};
 ghost use Rattle.letters.specs.TextsLemmas.{text_lawful};
 
@@ -14,7 +14,7 @@ use crate::text::{LONGEST_TEXT, Text};
 impl Text {
     // The text of these bytes; more than sixty, and any that is not a printable character, are refused with 20.
     pub fn new(bytes: &[u8]) -> Result<Text, Refusal>
-        ensures { told text_bytes result ≡ text_answer bytes.now }
+        ensures { as_answer text_bytes result ≡ text_answer bytes.now }
     {
         match first_wrong(bytes) {
             None => Ok(Text::make(bytes)),

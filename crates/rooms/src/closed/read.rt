@@ -1,10 +1,10 @@
 ghost use Rattle.std.specs.Prelude.{◌≡◌, length};
-ghost use Rattle.letters.specs.Refusals.{told};
-ghost use Rattle.carriers.specs.Meaning.{Kept};
-ghost use Rattle.sheets.specs.Sheets.{answered};
+ghost use Rattle.letters.specs.Refusals.{as_answer};
+ghost use Rattle.carriers.specs.Meaning.{UnchangedIfRefused};
+ghost use Rattle.sheets.specs.Sheets.{acceptance};
 ghost use Rattle.lives.specs.Drawing.{sheet_outcome};
-ghost use Rattle.lives.specs.Keeps.{AlwaysKeeps};
-ghost use Rattle.rooms.specs.Reading.{SheetLeft, closed_state, log_answer, pages_answer};
+ghost use Rattle.lives.specs.Guarantees.{AlwaysGuaranteed};
+ghost use Rattle.rooms.specs.RoomReading.{SheetLeft, log_answer, pages_answer, state_of_closed};
 
 use crate::closed::ClosedRoom;
 use letters::body::Body;
@@ -21,14 +21,14 @@ impl ClosedRoom {
         holds: &[Letter<B>],
         seat: u8,
     ) -> Result<&'t [Letter<B>], Refusal>
-        ensures { told (λ log. log.now) result ≡ log_answer (closed_state self.now) logs.now (length holds.now) seat }
+        ensures { as_answer (λ log. log.now) result ≡ log_answer (state_of_closed self.now) logs.now (length holds.now) seat }
     {
         self.room.log(logs, holds, seat)
     }
 
     // How many pages a seat's log takes. Refused with 8.
     pub fn pages(&self, seat: u8) -> Result<u32, Refusal>
-        ensures { told (λ n. n) result ≡ pages_answer (closed_state self.now) seat }
+        ensures { as_answer (λ n. n) result ≡ pages_answer (state_of_closed self.now) seat }
     {
         self.room.pages(seat)
     }
@@ -41,10 +41,10 @@ impl ClosedRoom {
         seat: u8,
         sheet: &mut K,
     ) -> Result<(), Refusal>
-        ensures answer { told (λ u. u) result ≡ answered (sheet_outcome K.Sheet.kind (closed_state self.now) logs.now (length holds.now) seat) }
-        ensures leaves { SheetLeft K.Sheet (closed_state self.now) logs.now holds.now seat sheet.old sheet.new }
-        ensures untouched { Kept result sheet.old sheet.new }
-        ensures keeps { AlwaysKeeps K.Sheet.kind }
+        ensures answer { as_answer (λ u. u) result ≡ acceptance (sheet_outcome K.Sheet.kind (state_of_closed self.now) logs.now (length holds.now) seat) }
+        ensures leaves { SheetLeft K.Sheet (state_of_closed self.now) logs.now holds.now seat sheet.old sheet.new }
+        ensures untouched { UnchangedIfRefused result sheet.old sheet.new }
+        ensures guarantees { AlwaysGuaranteed K.Sheet.kind }
     {
         self.room.draw_up(logs, holds, seat, sheet)
     }

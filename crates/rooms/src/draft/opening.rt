@@ -1,8 +1,8 @@
 // Drafting a room, enrolling its boxes and opening it.
 ghost use Rattle.std.specs.Prelude.{◌≡◌, [], length, take, Ok};
-ghost use Rattle.letters.specs.Refusals.{told};
-ghost use Rattle.lives.specs.Worked.{Worked, moment};
-ghost use Rattle.rooms.specs.Drafts.{draft_check, draft_state, drafted, enrol_answer, enrol_check, enrolled, has, open_check, opened, quiet};
+ghost use Rattle.letters.specs.Refusals.{as_answer};
+ghost use Rattle.lives.specs.Reachability.{Reachable, configuration_of};
+ghost use Rattle.rooms.specs.Drafts.{draft_check, draft_with_name, enrol_answer, enrol_check, has_number, no_letter_waits, open_check, opening_state, state_of_draft, state_of_new_draft};
 ghost use Rattle.rooms.specs.States.{state};
 
 use crate::draft::Draft;
@@ -16,7 +16,7 @@ use letters::refusal::Refusal;
 impl Draft {
     // Whether a room may have this quota: 1 where it is 0 or above 256.
     pub fn check(quota: u16) -> Result<(), Refusal>
-        ensures { told (λ u. u) result ≡ draft_check quota }
+        ensures { as_answer (λ u. u) result ≡ draft_check quota }
     {
         if quota == 0 || quota > 256 {
             return Err(Refusal::BadQuota);
@@ -27,7 +27,7 @@ impl Draft {
     // A draft with nobody enrolled, of a quota that was checked.
     pub fn new(number: u32, quota: u16) -> Draft
         requires { draft_check quota ≡ Ok tt }
-        ensures { draft_state result ≡ drafted number quota }
+        ensures { state_of_draft result ≡ state_of_new_draft number quota }
     {
         Draft {
             terms: Terms {
@@ -41,8 +41,8 @@ impl Draft {
 
     // Gives the next seat a name, and answers the seat. Refused with 2, 3.
     pub fn enrol(&mut self, name: u32) -> Result<u8, Refusal>
-        ensures answer { told (λ s. s) result ≡ enrol_answer (draft_state self.old) name }
-        ensures draft { draft_state self.new ≡ enrolled (draft_state self.old) (enrol_answer (draft_state self.old) name) name }
+        ensures answer { as_answer (λ s. s) result ≡ enrol_answer (state_of_draft self.old) name }
+        ensures draft { state_of_draft self.new ≡ draft_with_name (state_of_draft self.old) (enrol_answer (state_of_draft self.old) name) name }
     {
         self.may_enrol(name)?;
         let seat = self.terms.count;
@@ -53,7 +53,7 @@ impl Draft {
 
     // Whether the next seat may have this name.
     fn may_enrol(&self, name: u32) -> Result<(), Refusal>
-        ensures { told (λ u. u) result ≡ enrol_check (draft_state self.now) name }
+        ensures { as_answer (λ u. u) result ≡ enrol_check (state_of_draft self.now) name }
     {
         if name == 0 || self.has(name) {
             return Err(Refusal::BadName);
@@ -66,7 +66,7 @@ impl Draft {
 
     // Whether a name is enrolled.
     fn has(&self, name: u32) -> bool
-        ensures { result ≡ has (take self.now.terms.count self.now.terms.names) name }
+        ensures { result ≡ has_number (take self.now.terms.count self.now.terms.names) name }
     {
         self.terms.names[..self.terms.count as usize].contains(&name)
     }
@@ -78,7 +78,7 @@ impl Draft {
         holds: &[Letter<B>],
         carrier: &C,
     ) -> Result<(), Refusal>
-        ensures { told (λ u. u) result ≡ open_check (draft_state self.now) (length logs.now) (length holds.now) (C.Carrier.meaning carrier.now) }
+        ensures { as_answer (λ u. u) result ≡ open_check (state_of_draft self.now) (length logs.now) (length holds.now) (C.Carrier.meaning carrier.now) }
     {
         if self.terms.count == 0 {
             return Err(Refusal::NoSeats);
@@ -102,9 +102,9 @@ impl Draft {
         holds: &[Letter<B>],
         carrier: &C,
     ) -> Room
-        requires { open_check (draft_state self) (length logs.now) (length holds.now) (C.Carrier.meaning carrier.now) ≡ Ok tt }
-        ensures room { state result ≡ opened (draft_state self) }
-        ensures worked { Worked [] (moment (state result) logs.now holds.now (C.Carrier.meaning carrier.now)) }
+        requires { open_check (state_of_draft self) (length logs.now) (length holds.now) (C.Carrier.meaning carrier.now) ≡ Ok tt }
+        ensures room { state result ≡ opening_state (state_of_draft self) }
+        ensures reachable { Reachable [] (configuration_of (state result) logs.now holds.now (C.Carrier.meaning carrier.now)) }
     {
         let Draft { terms } = self;
         Room::fresh(terms)
@@ -113,7 +113,7 @@ impl Draft {
 
 // Whether no letter waits at any of the first seats.
 fn is_quiet<C: Carrier>(carrier: &C, count: u8) -> bool
-    ensures { result ≡ quiet (C.Carrier.meaning carrier.now) count }
+    ensures { result ≡ no_letter_waits (C.Carrier.meaning carrier.now) count }
 {
     (0..count).all(|seat| carrier.waits(seat) == 0)
 }

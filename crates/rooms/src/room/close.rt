@@ -1,6 +1,6 @@
 ghost use Rattle.std.specs.Prelude.{◌≡◌, Ok};
-ghost use Rattle.letters.specs.Refusals.{told};
-ghost use Rattle.rooms.specs.Reading.{all_clear, close_check, closed_state};
+ghost use Rattle.letters.specs.Refusals.{as_answer};
+ghost use Rattle.rooms.specs.RoomReading.{all_clear, close_check, state_of_closed};
 ghost use Rattle.rooms.specs.States.{state};
 
 use crate::closed::ClosedRoom;
@@ -11,7 +11,7 @@ use letters::refusal::Refusal;
 impl Room {
     // Whether the room may close: 16 where a docket is out or parked.
     pub fn check_close(&self) -> Result<(), Refusal>
-        ensures { told (λ u. u) result ≡ close_check (state self.now) }
+        ensures { as_answer (λ u. u) result ≡ close_check (state self.now) }
     {
         if !self.is_clear() {
             return Err(Refusal::DocketsOpen);
@@ -22,7 +22,7 @@ impl Room {
     // Ends the room, which is only read from then on.
     pub fn close(self) -> ClosedRoom
         requires { close_check (state self) ≡ Ok tt }
-        ensures { closed_state result ≡ state self }
+        ensures { state_of_closed result ≡ state self }
     {
         ClosedRoom { room: self }
     }

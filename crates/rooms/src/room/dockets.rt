@@ -1,29 +1,29 @@
 // Dockets: parking one, and collecting it again.
 ghost use Rattle.std.specs.Prelude.{◌≡◌, ◌<◌, IfOk, true};
-ghost use Rattle.letters.specs.Refusals.{told};
+ghost use Rattle.letters.specs.Refusals.{as_answer};
 ghost use Rattle.seats.specs.declared.seat.DocketEvent.TheVariants.{Park, Collect};
-ghost use Rattle.seats.specs.Outcomes.{collect_answer, docket_room, good_slip, park_answer};
+ghost use Rattle.seats.specs.Outcomes.{collect_answer, docket_room, good_docket, park_answer};
 ghost use Rattle.seats.specs.Rooms.{seat_at, with_seat};
-ghost use Rattle.seats.specs.Seats.{clock_at, docketed};
+ghost use Rattle.seats.specs.Seats.{clock_at, with_docket_event};
 ghost use Rattle.rooms.specs.Handing.{out_at};
-ghost use Rattle.rooms.specs.States.{ComesBack, slip, spent, state};
+ghost use Rattle.rooms.specs.States.{ComesBack, docket_as_answer, id_of, state};
 
 use crate::docket::{Docket, Returned};
 use crate::room::Room;
 use letters::refusal::Refusal;
+use seats::docket_id::DocketId;
 use seats::seat::{DocketEvent, Seat};
-use seats::slip::Slip;
 
 impl Room {
     // Leaves the docket's letter for later. Refused with 12.
     pub fn park(&mut self, docket: Docket) -> Result<(), Returned>
-        ensures answer { spent result ≡ park_answer (state self.old) (slip docket) }
+        ensures answer { docket_as_answer result ≡ park_answer (state self.old) (id_of docket) }
         ensures docket { ComesBack docket result }
-        ensures room { state self.new ≡ docket_room (state self.old) docket.seat Park (park_answer (state self.old) (slip docket)) }
+        ensures room { state self.new ≡ docket_room (state self.old) docket.seat Park (park_answer (state self.old) (id_of docket)) }
     {
-        match self.park_slip(docket.slip()) {
+        match self.park_by_id(docket.id()) {
             Ok(()) => {
-                let _ = docket.into_slip();
+                let _ = docket.into_id();
                 Ok(())
             }
             Err(refusal) => Err(Returned { docket, refusal }),
@@ -31,29 +31,29 @@ impl Room {
     }
 
     // The same, by the numbers of the docket.
-    pub(crate) fn park_slip(&mut self, slip: Slip) -> Result<(), Refusal>
-        ensures answer { told (λ u. u) result ≡ park_answer (state self.old) slip }
-        ensures room { state self.new ≡ docket_room (state self.old) slip.seat Park (park_answer (state self.old) slip) }
+    pub(crate) fn park_by_id(&mut self, docket_id: DocketId) -> Result<(), Refusal>
+        ensures answer { as_answer (λ u. u) result ≡ park_answer (state self.old) docket_id }
+        ensures room { state self.new ≡ docket_room (state self.old) docket_id.seat Park (park_answer (state self.old) docket_id) }
     {
-        if !self.knows(slip) {
+        if !self.has_docket_out(docket_id) {
             return Err(Refusal::WrongDocket);
         }
-        self.note_docket(slip.seat, DocketEvent::Park);
+        self.record_docket_event(docket_id.seat, DocketEvent::Park);
         Ok(())
     }
 
     // Answers the parked docket of a seat again. Refused with 8, 13.
     pub fn collect(&mut self, seat: u8) -> Result<Docket, Refusal>
-        ensures answer { told slip result ≡ collect_answer (state self.old) seat }
+        ensures answer { as_answer id_of result ≡ collect_answer (state self.old) seat }
         ensures room { state self.new ≡ docket_room (state self.old) seat Collect (collect_answer (state self.old) seat) }
-        ensures good { IfOk result (λ docket. good_slip (state self.new) (slip docket) ≡ true) }
+        ensures good { IfOk result (λ docket. good_docket (state self.new) (id_of docket) ≡ true) }
     {
-        Ok(Docket::of(self.collect_slip(seat)?))
+        Ok(Docket::of(self.collect_for_id(seat)?))
     }
 
     // The same, by the numbers of the docket: nobody has the docket yet.
-    pub(crate) fn collect_slip(&mut self, seat: u8) -> Result<Slip, Refusal>
-        ensures answer { told (λ slip. slip) result ≡ collect_answer (state self.old) seat }
+    pub(crate) fn collect_for_id(&mut self, seat: u8) -> Result<DocketId, Refusal>
+        ensures answer { as_answer (λ docket_id. docket_id) result ≡ collect_answer (state self.old) seat }
         ensures room { state self.new ≡ docket_room (state self.old) seat Collect (collect_answer (state self.old) seat) }
     {
         self.check_seat(seat)?;
@@ -61,15 +61,15 @@ impl Room {
         if !poster.move_docket(DocketEvent::Collect) {
             return Err(Refusal::NotParked);
         }
-        self.tell(seat, poster);
-        Ok(self.newest(seat, &poster))
+        self.store_seat(seat, poster);
+        Ok(self.newest_docket(seat, &poster))
     }
 
     // What the docket of the newest letter says that seat s posted, which is copied out.
-    pub(crate) fn newest(&self, s: u8, poster: &Seat) -> Slip
+    pub(crate) fn newest_docket(&self, s: u8, poster: &Seat) -> DocketId
         ensures { result ≡ record { room = self.now.terms.number; seat = s; number = clock_at poster.now s } }
     {
-        Slip {
+        DocketId {
             room: self.terms.number,
             seat: s,
             number: poster.clock.entry(s),
@@ -77,7 +77,7 @@ impl Room {
     }
 
     // The numbers of a seat's docket, where it is out.
-    pub(crate) fn out(&self, seat: u8) -> Option<Slip>
+    pub(crate) fn out(&self, seat: u8) -> Option<DocketId>
         ensures { result ≡ out_at (state self.now) seat }
     {
         if seat >= self.terms.count {
@@ -87,23 +87,23 @@ impl Room {
         if !poster.move_docket(DocketEvent::Send) {
             return None;
         }
-        Some(self.newest(seat, &poster))
+        Some(self.newest_docket(seat, &poster))
     }
 
     // Whether the docket of these numbers is out at this room, to be sent or parked.
-    pub(crate) fn knows(&self, slip: Slip) -> bool
-        ensures { result ≡ good_slip (state self.now) slip }
+    pub(crate) fn has_docket_out(&self, docket_id: DocketId) -> bool
+        ensures { result ≡ good_docket (state self.now) docket_id }
     {
-        self.out(slip.seat) == Some(slip)
+        self.out(docket_id.seat) == Some(docket_id)
     }
 
     // Writes down at a seat what happens to its docket.
-    pub(crate) fn note_docket(&mut self, seat: u8, event: DocketEvent)
+    pub(crate) fn record_docket_event(&mut self, seat: u8, event: DocketEvent)
         requires { seat < self.old.terms.count }
-        ensures { state self.new ≡ with_seat (state self.old) seat (docketed (seat_at (state self.old) seat) event) }
+        ensures { state self.new ≡ with_seat (state self.old) seat (with_docket_event (seat_at (state self.old) seat) event) }
     {
         let mut told = self.seats[seat as usize];
         let _ = told.move_docket(event);
-        self.tell(seat, told);
+        self.store_seat(seat, told);
     }
 }

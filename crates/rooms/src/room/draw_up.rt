@@ -1,11 +1,11 @@
 // Drawing up a log on a sheet.
 ghost use Rattle.std.specs.Prelude.{◌≡◌, length};
-ghost use Rattle.letters.specs.Refusals.{told};
-ghost use Rattle.carriers.specs.Meaning.{Kept};
-ghost use Rattle.sheets.specs.Sheets.{answered};
+ghost use Rattle.letters.specs.Refusals.{as_answer};
+ghost use Rattle.carriers.specs.Meaning.{UnchangedIfRefused};
+ghost use Rattle.sheets.specs.Sheets.{acceptance};
 ghost use Rattle.lives.specs.Drawing.{sheet_outcome};
-ghost use Rattle.lives.specs.Keeps.{AlwaysKeeps};
-ghost use Rattle.rooms.specs.Reading.{SheetLeft};
+ghost use Rattle.lives.specs.Guarantees.{AlwaysGuaranteed};
+ghost use Rattle.rooms.specs.RoomReading.{SheetLeft};
 ghost use Rattle.rooms.specs.States.{state};
 
 use crate::room::Room;
@@ -24,12 +24,12 @@ impl Room {
         seat: u8,
         sheet: &mut K,
     ) -> Result<(), Refusal>
-        ensures answer { told (λ u. u) result ≡ answered (sheet_outcome K.Sheet.kind (state self.now) logs.now (length holds.now) seat) }
+        ensures answer { as_answer (λ u. u) result ≡ acceptance (sheet_outcome K.Sheet.kind (state self.now) logs.now (length holds.now) seat) }
         ensures leaves { SheetLeft K.Sheet (state self.now) logs.now holds.now seat sheet.old sheet.new }
-        ensures untouched { Kept result sheet.old sheet.new }
-        ensures keeps { AlwaysKeeps K.Sheet.kind }
+        ensures untouched { UnchangedIfRefused result sheet.old sheet.new }
+        ensures guarantees { AlwaysGuaranteed K.Sheet.kind }
     {
-        self.check_visit(logs.len(), holds.len(), seat)?;
+        self.check_tables_and_seat(logs.len(), holds.len(), seat)?;
         if K::PLACES < self.terms.places() as u32 {
             return Err(Refusal::TooFewPlaces);
         }

@@ -1,6 +1,6 @@
 ghost use Rattle.std.specs.Prelude.{◌≡◌, length};
-ghost use Rattle.letters.specs.Refusals.{told};
-ghost use Rattle.rooms.specs.Reading.{log_answer, pages_answer};
+ghost use Rattle.letters.specs.Refusals.{as_answer};
+ghost use Rattle.rooms.specs.RoomReading.{log_answer, pages_answer};
 ghost use Rattle.rooms.specs.States.{state};
 
 use crate::room::Room;
@@ -17,15 +17,15 @@ impl Room {
         holds: &[Letter<B>],
         seat: u8,
     ) -> Result<&'t [Letter<B>], Refusal>
-        ensures { told (λ log. log.now) result ≡ log_answer (state self.now) logs.now (length holds.now) seat }
+        ensures { as_answer (λ log. log.now) result ≡ log_answer (state self.now) logs.now (length holds.now) seat }
     {
-        self.check_visit(logs.len(), holds.len(), seat)?;
+        self.check_tables_and_seat(logs.len(), holds.len(), seat)?;
         Ok(self.log_part(logs, seat, &self.seats[seat as usize]))
     }
 
     // How many pages a seat's log takes. Refused with 8.
     pub fn pages(&self, seat: u8) -> Result<u32, Refusal>
-        ensures { told (λ n. n) result ≡ pages_answer (state self.now) seat }
+        ensures { as_answer (λ n. n) result ≡ pages_answer (state self.now) seat }
     {
         self.check_seat(seat)?;
         Ok(pages(self.seats[seat as usize].log_len()))

@@ -1,6 +1,6 @@
 ghost use Rattle.std.specs.Prelude.{◌≡◌, length};
 ghost use Rattle.letters.specs.Names.{name_of};
-ghost use Rattle.letters.specs.Refusals.{told};
+ghost use Rattle.letters.specs.Refusals.{as_answer};
 ghost use Rattle.seats.specs.Outcomes.{show_answer, show_holds, show_logs, show_outcome, show_room};
 ghost use Rattle.rooms.specs.Calls.{ShowsReady};
 ghost use Rattle.rooms.specs.States.{state};
@@ -23,13 +23,13 @@ impl Room {
         holds: &mut [Letter<B>],
         seat: u8,
     ) -> Result<LetterId, Refusal>
-        ensures answer { told name_of result ≡ show_answer (show_outcome (state self.old) (length logs.old) holds.old seat) }
-        ensures ready { ShowsReady (state self.old) holds.old seat (told name_of result) }
+        ensures answer { as_answer name_of result ≡ show_answer (show_outcome (state self.old) (length logs.old) holds.old seat) }
+        ensures ready { ShowsReady (state self.old) holds.old seat (as_answer name_of result) }
         ensures room { state self.new ≡ show_room (state self.old) (show_outcome (state self.old) (length logs.old) holds.old seat) seat }
         ensures logs { logs.new ≡ show_logs (state self.old) (show_outcome (state self.old) (length logs.old) holds.old seat) seat logs.old }
         ensures holds { holds.new ≡ show_holds (state self.old) (show_outcome (state self.old) (length logs.old) holds.old seat) seat holds.old }
     {
-        self.check_visit(logs.len(), holds.len(), seat)?;
+        self.check_tables_and_seat(logs.len(), holds.len(), seat)?;
         let mut viewer = self.seats[seat as usize];
         let hold = self.hold_part(holds, seat, &viewer);
         let Terms { count, quota, .. } = self.terms;
@@ -42,7 +42,7 @@ impl Room {
         viewer.release();
         let id = letter.id();
         close_up(holds, self.start(seat) + at, behind);
-        self.tell(seat, viewer);
+        self.store_seat(seat, viewer);
         Ok(id)
     }
 }

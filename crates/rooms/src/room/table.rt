@@ -1,7 +1,7 @@
 // The table of seats, and where each seat's letters lie in the letter tables.
 ghost use Rattle.std.specs.Prelude.{◌≡◌, ◌+◌, ◌<◌, ◌≤◌, replicate, take, drop, nat_lt, Ok};
-ghost use Rattle.letters.specs.Refusals.{told, unless};
-ghost use Rattle.seats.specs.Keeping.{Kept};
+ghost use Rattle.letters.specs.Refusals.{as_answer, unless};
+ghost use Rattle.seats.specs.Invariants.{SeatInvariant};
 ghost use Rattle.seats.specs.Outcomes.{seat_check};
 ghost use Rattle.seats.specs.Rooms.{start, with_seat};
 ghost use Rattle.seats.specs.Seats.{fresh, log_length};
@@ -35,8 +35,8 @@ impl Room {
     }
 
     // Writes the table of seats back with one seat changed.
-    pub(crate) fn tell(&mut self, s: u8, seat: Seat)
-        requires { (Kept self.old.terms.count self.old.terms.quota seat) × (s < 16) }
+    pub(crate) fn store_seat(&mut self, s: u8, seat: Seat)
+        requires { (SeatInvariant self.old.terms.count self.old.terms.quota seat) × (s < 16) }
         ensures { state self.new ≡ with_seat (state self.old) s seat }
     {
         let mut seats = self.seats;
@@ -84,7 +84,7 @@ impl Room {
 
     // Whether the room has this seat: 8 where it has not.
     pub(crate) fn check_seat(&self, s: u8) -> Result<(), Refusal>
-        ensures { told (λ u. u) result ≡ unless (nat_lt s self.now.terms.count) 8 (Ok tt) }
+        ensures { as_answer (λ u. u) result ≡ unless (nat_lt s self.now.terms.count) 8 (Ok tt) }
     {
         if s >= self.terms.count {
             return Err(Refusal::UnknownSeat);
@@ -93,8 +93,13 @@ impl Room {
     }
 
     // Whether the tables suffice and the room has this seat: 5, 8.
-    pub(crate) fn check_visit(&self, logs: usize, holds: usize, s: u8) -> Result<(), Refusal>
-        ensures { told (λ u. u) result ≡ seat_check (state self.now) logs holds s }
+    pub(crate) fn check_tables_and_seat(
+        &self,
+        logs: usize,
+        holds: usize,
+        s: u8,
+    ) -> Result<(), Refusal>
+        ensures { as_answer (λ u. u) result ≡ seat_check (state self.now) logs holds s }
     {
         if !self.terms.suffice(logs, holds) {
             return Err(Refusal::TooShort);

@@ -1,12 +1,12 @@
 // Which jobs a job list has open, and how letters are entered there.
 ghost use Rattle.std.specs.Prelude.{◌≡◌, ◌+◌, ◌<◌, ◌≤◌, true, length, position, refl};
-ghost use Rattle.letters.specs.Refusals.{told};
-ghost use Rattle.sheet_kinds.specs.JobLists.{CodesFollow, Listed, code_in, job_list_kind, listed_by, no_jobs, open_job, with_job, without_job};
+ghost use Rattle.letters.specs.Refusals.{as_answer};
+ghost use Rattle.sheet_kinds.specs.JobLists.{CodesFollow, JobListMeaning, code_in, job_list_kind, job_list_of, no_jobs, open_job, with_job, without_job};
 ghost use Rattle.arrayvec.specs.ArrayVec.{array_vec_len};
-ghost use Rattle.sheets.specs.Sheets.{answered, enter_outcome, left_by};
+ghost use Rattle.sheets.specs.Sheets.{acceptance, enter_outcome, meaning_left};
 ghost use Rattle.sheets.specs.Placing.{rising};
 ghost use Rattle.sheet_kinds.specs.OpenJobs.{job_after, job_is, job_order};
-ghost use Rattle.sheet_kinds.specs.JobSwaps.{jobs_swap};
+ghost use Rattle.sheet_kinds.specs.JobSwapLemmas.{jobs_swap};
 ghost use Rattle.sheet_kinds.specs.declared.job_list.TheConstants.{PLACES};
 
 use crate::job_list::{self, JobList};
@@ -17,10 +17,10 @@ use letters::job::Job;
 use letters::letter::Letter;
 use letters::letter_id::LetterId;
 use letters::refusal::Refusal;
-use sheets::placing::{Placed, insert};
+use sheets::placing::{OrderedRow, insert};
 use sheets::sheet::Sheet;
 
-impl Placed for OpenJob {
+impl OrderedRow for OpenJob {
     ghost after = { job_after };
 
     fn is_after(&self, new: &OpenJob) -> bool {
@@ -42,7 +42,7 @@ impl OpenJob {
 
 impl JobList {
     pub fn new() -> Self
-        ensures { listed_by result ≡ no_jobs }
+        ensures { job_list_of result ≡ no_jobs }
     {
         JobList {
             rows: ArrayVec::new(),
@@ -52,7 +52,7 @@ impl JobList {
 
     // The open jobs, in order of p.n.
     pub fn jobs(&self) -> &[OpenJob]
-        ensures jobs { result.now ≡ (listed_by self.now).jobs }
+        ensures jobs { result.now ≡ (job_list_of self.now).jobs }
         ensures ordered { rising job_after result.now ≡ true }
     {
         self.rows.as_slice()
@@ -60,7 +60,7 @@ impl JobList {
 
     // The code of a job, where it is open. The letters entered change it as their bodies say.
     pub fn code_of(&self, id: LetterId) -> Option<u32>
-        ensures answer { result ≡ code_in (listed_by self.now).jobs id.poster id.number }
+        ensures answer { result ≡ code_in (job_list_of self.now).jobs id.poster id.number }
         ensures follows { CodesFollow }
     {
         self.jobs()
@@ -71,7 +71,7 @@ impl JobList {
 
     // The place of the job of this letter, where it is open.
     fn place_of(&self, id: LetterId) -> Option<usize>
-        ensures { result ≡ position (λ r. job_is r id.poster id.number) (listed_by self.now).jobs }
+        ensures { result ≡ position (λ r. job_is r id.poster id.number) (job_list_of self.now).jobs }
     {
         self.rows.iter().position(|job| job.is_of(id))
     }
@@ -81,7 +81,7 @@ impl JobList {
     fn close(&mut self, id: LetterId)
         ensures counted { self.new.entered ≡ self.old.entered }
         ensures shorter { array_vec_len self.new.rows ≤ array_vec_len self.old.rows }
-        ensures jobs { (listed_by self.new).jobs ≡ without_job (listed_by self.old).jobs id.poster id.number }
+        ensures jobs { (job_list_of self.new).jobs ≡ without_job (job_list_of self.old).jobs id.poster id.number }
     {
         if let Some(at) = self.place_of(id) {
             self.rows.remove(at);
@@ -92,7 +92,7 @@ impl JobList {
     fn open(&mut self, id: LetterId, code: u32)
         requires { array_vec_len self.old.rows < self.old.entered }
         ensures counted { self.new.entered ≡ self.old.entered }
-        ensures jobs { (listed_by self.new).jobs ≡ with_job (listed_by self.old).jobs (open_job id.poster id.number code) }
+        ensures jobs { (job_list_of self.new).jobs ≡ with_job (job_list_of self.old).jobs (open_job id.poster id.number code) }
     {
         self.close(id);
         let job = OpenJob {
@@ -112,9 +112,9 @@ impl Sheet for JobList {
 
     ghost PLACES = { PLACES };
 
-    ghost Meaning = { Listed };
+    ghost Meaning = { JobListMeaning };
 
-    ghost meaning = { listed_by };
+    ghost meaning = { job_list_of };
 
     ghost kind = { job_list_kind };
 
@@ -138,9 +138,9 @@ impl Sheet for JobList {
     }
 
     fn enter(&mut self, letter: &Letter<Job>) -> Result<(), Refusal>
-        ensures answer { told (λ u. u) result ≡ answered (enter_outcome job_list_kind (listed_by self.old) letter.now) }
-        ensures leaves { listed_by self.new ≡ left_by (enter_outcome job_list_kind (listed_by self.old) letter.now) (listed_by self.old) }
-        ensures untouched { job_list_kind.count (listed_by self.old) ≡ job_list_kind.places → self.new ≡ self.old }
+        ensures answer { as_answer (λ u. u) result ≡ acceptance (enter_outcome job_list_kind (job_list_of self.old) letter.now) }
+        ensures leaves { job_list_of self.new ≡ meaning_left (enter_outcome job_list_kind (job_list_of self.old) letter.now) (job_list_of self.old) }
+        ensures untouched { job_list_kind.count (job_list_of self.old) ≡ job_list_kind.places → self.new ≡ self.old }
     {
         if self.entered == Self::PLACES {
             return Err(Refusal::SheetFull);

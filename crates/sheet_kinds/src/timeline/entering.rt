@@ -1,13 +1,13 @@
 // What a timeline shows, and how letters are entered there.
 ghost use Rattle.std.specs.Prelude.{◌≡◌, ◌+◌, true, length, refl};
-ghost use Rattle.letters.specs.Refusals.{told};
+ghost use Rattle.letters.specs.Refusals.{as_answer};
 ghost use Rattle.sheets.specs.Pages.{page_count};
 ghost use Rattle.sheets.specs.Placing.{in_order};
 ghost use Rattle.sheet_kinds.specs.RowOrder.{row_after, row_order, rows_differ};
-ghost use Rattle.sheets.specs.Sheets.{answered, enter_outcome, left_by};
-ghost use Rattle.sheet_kinds.specs.Timelines.{Shown, no_rows, row_of, shown_by, timeline_kind};
-ghost use Rattle.sheets.specs.Beside.{beside_posters};
-ghost use Rattle.sheets.specs.Rows.{placed_swap};
+ghost use Rattle.sheets.specs.Sheets.{acceptance, enter_outcome, meaning_left};
+ghost use Rattle.sheet_kinds.specs.Timelines.{TimelineMeaning, no_rows, row_of, timeline_kind, timeline_of};
+ghost use Rattle.sheets.specs.BesideLemmas.{beside_posters};
+ghost use Rattle.sheets.specs.RowLemmas.{placed_swap};
 ghost use Rattle.sheet_kinds.specs.declared.timeline.TheConstants.{PLACES};
 
 use crate::row::Row;
@@ -17,10 +17,10 @@ use letters::letter::Letter;
 use letters::refusal::Refusal;
 use letters::text::Text;
 use sheets::pages::pages;
-use sheets::placing::{Placed, insert};
+use sheets::placing::{OrderedRow, insert};
 use sheets::sheet::Sheet;
 
-impl Placed for Row {
+impl OrderedRow for Row {
     ghost after = { row_after };
 
     fn is_after(&self, new: &Row) -> bool {
@@ -47,7 +47,7 @@ impl From<&Letter<Text>> for Row {
 
 impl Timeline {
     pub fn new() -> Self
-        ensures { shown_by result ≡ no_rows }
+        ensures { timeline_of result ≡ no_rows }
     {
         Timeline {
             rows: ArrayVec::new(),
@@ -56,7 +56,7 @@ impl Timeline {
 
     // The rows from the top, by rank and, where ranks are equal, by poster.
     pub fn rows(&self) -> &[Row]
-        ensures rows { result.now ≡ (shown_by self.now).rows }
+        ensures rows { result.now ≡ (timeline_of self.now).rows }
         ensures ordered { in_order row_after result.now ≡ true }
     {
         self.rows.as_slice()
@@ -64,7 +64,7 @@ impl Timeline {
 
     // How many pages the rows take.
     pub fn pages(&self) -> u32
-        ensures { result ≡ page_count (length (shown_by self.now).rows) }
+        ensures { result ≡ page_count (length (timeline_of self.now).rows) }
     {
         pages(self.rows.len() as u32)
     }
@@ -77,9 +77,9 @@ impl Sheet for Timeline {
 
     ghost PLACES = { PLACES };
 
-    ghost Meaning = { Shown };
+    ghost Meaning = { TimelineMeaning };
 
-    ghost meaning = { shown_by };
+    ghost meaning = { timeline_of };
 
     ghost kind = { timeline_kind };
 
@@ -104,9 +104,9 @@ impl Sheet for Timeline {
 
     #[tactic(auto, using(crate::proofs::Showing::timeline_facts))]
     fn enter(&mut self, letter: &Letter<Text>) -> Result<(), Refusal>
-        ensures answer { told (λ u. u) result ≡ answered (enter_outcome timeline_kind (shown_by self.old) letter.now) }
-        ensures leaves { shown_by self.new ≡ left_by (enter_outcome timeline_kind (shown_by self.old) letter.now) (shown_by self.old) }
-        ensures untouched { timeline_kind.count (shown_by self.old) ≡ timeline_kind.places → self.new ≡ self.old }
+        ensures answer { as_answer (λ u. u) result ≡ acceptance (enter_outcome timeline_kind (timeline_of self.old) letter.now) }
+        ensures leaves { timeline_of self.new ≡ meaning_left (enter_outcome timeline_kind (timeline_of self.old) letter.now) (timeline_of self.old) }
+        ensures untouched { timeline_kind.count (timeline_of self.old) ≡ timeline_kind.places → self.new ≡ self.old }
     {
         if !insert(&mut self.rows, Row::from(letter)) {
             return Err(Refusal::SheetFull);

@@ -204,10 +204,10 @@ impl Life {
         requires good { good_in self.old.room (Some docket) ≡ true }
         requires two_seats { of_two_seats (Some docket) self.old.right ≡ true }
     {
-        let slip = docket.slip();
+        let docket_id = docket.id();
         let was = self.left.replace(docket);
         leave(&mut self.room, was);
-        AnswerLine::Docket(slip)
+        AnswerLine::Docket(docket_id)
     }
 
     // Takes a docket back that was refused.

@@ -3,7 +3,7 @@ use Rattle.letters.specs.Letters.{entry_at}
 use Rattle.std.proofs.Common.{None, ◌∙◌}
 use Rattle.std.proofs.lemmas.List.{at_drop_all}
 use Rattle.letters.specs.Order.{ready}
-use Rattle.seats.specs.Outcomes.{first}
+use Rattle.seats.specs.Outcomes.{first_passing}
 use Rattle.letters.proofs.Readiness.{decides_ready}
 use Rattle.seats.proofs.Searches.{first_on, first_found, first_such}
 use Rattle.seats.proofs.Readiness.{pair_turn, pairs_end, known_more, too_early, is_ready}
@@ -56,7 +56,7 @@ returns-in-arrivals g c =
 pub returns : goal.returns
 returns g c =
     let m = ready c.args.count c.args.quota c.args.seat c.args.clock.now in
-    let answer = sym (at_drop_all (first m c.arrivals.at) c.args.hold.now c.arrivals.at c.arrivals-test.false) ∙ c.arrivals.invariant in
+    let answer = sym (at_drop_all (first_passing m c.arrivals.at) c.args.hold.now c.arrivals.at c.arrivals-test.false) ∙ c.arrivals.invariant in
     record {
       answer = answer;
       decides = first_such m _ (λ x. decides_ready c.args.clock.now x c.args.count c.args.quota c.args.seat) c.args.hold.now None answer;

@@ -7,7 +7,7 @@ use Rattle.sheets.proofs.placing.insert.Goals as goal
 
 pub returns-clause-rows : goal.returns-clause-rows
 returns-clause-rows g c =
-    let after = g.T.Placed.after in
+    let after = g.T.OrderedRow.after in
     let rows = c.args.rows.now.items in
     let new = c.args.new in
     let free : length rows < g.row.N = grind (arith, rules, nat_tests) in

@@ -11,7 +11,7 @@ use Rattle.spool.proofs.Spool.find.Goals as goal
 pub returns : goal.returns
 returns g c =
     let s = c.args.self.now in
-    let b = s.tape.bytes.now in
+    let b = s.row_buffer.bytes.now in
     let items = letters_at (letter_of g.B.Body.form g.B.Body.blank) b in
     let is = c.nth_marked.ensures in
     let within = place_within s.rows b _ c.rows.ensures items c.args.seat c.args.place _ (sym is ∙ ap (option_map (λ p. (p.0, p.1.now))) c.in_ok-row.was) in
@@ -26,7 +26,7 @@ returns g c =
 pub returns-in_err-row : goal.returns-in_err-row
 returns-in_err-row g c =
     let s = c.args.self.now in
-    let b = s.tape.bytes.now in
+    let b = s.row_buffer.bytes.now in
     let items = letters_at (letter_of g.B.Body.form g.B.Body.blank) b in
     let past : waits_at (spool_of g.B.Body.form g.B.Body.blank s) c.args.seat ≤ c.args.place = ⊎_elim
     (λ lt. let q = place_found s.rows b _ c.rows.ensures items c.args.seat c.args.place lt in absurd (none_read (λ p. (p.0, p.1.now)) c.nth_marked.result q.0 (c.nth_marked.ensures ∙ q.1) c.in_err-row.was))

@@ -4,7 +4,7 @@ use Rattle.std.proofs.lemmas.Bool.{eqb-false, eqb-true}
 use Rattle.letters.specs.Numbers.{bytes_of_16}
 use Rattle.records.specs.declared.record.TheConstants.{RECORD_SIZE}
 use Rattle.records.specs.Buffers.{overlaid}
-use Rattle.spool.specs.declared.tape.TheConstants.{ROW_SIZE}
+use Rattle.spool.specs.declared.row_buffer.TheConstants.{ROW_SIZE}
 use Rattle.spool.specs.Decoding.{letter_of}
 use Rattle.spool.specs.Rows.{mask_of, row_at}
 use Rattle.spool.proofs.Bits.{ones_some, ones_none}
@@ -17,20 +17,20 @@ use Rattle.spool.proofs.Spool.strike.Goals as goal
 pub offset_bounds-rows-row : goal.offset_bounds-rows-row
 offset_bounds-rows-row g c =
     let s = c.args.self.now in
-    let long = all_lent s.rows s.tape.bytes.now _ c.rows.ensures in
+    let long = all_lent s.rows s.row_buffer.bytes.now _ c.rows.ensures in
     let lent = c.rows.type_inv.1 in
     omega (arith, c.requires.row)
 
 pub bounds-rows-row : goal.bounds-rows-row
 bounds-rows-row g c =
     let s = c.args.self.now in
-    let long = all_lent s.rows s.tape.bytes.now _ c.rows.ensures in
+    let long = all_lent s.rows s.row_buffer.bytes.now _ c.rows.ensures in
     omega (arith, c.requires.row)
 
 pub invariant_of-self : goal.invariant_of-self
 invariant_of-self g c =
     let s = c.args.self.now in
-    let b = s.tape.bytes.now in
+    let b = s.row_buffer.bytes.now in
     let a = c.close_up.new.self.bytes.now in
     let e = c.close_up.ensures in
     record {
@@ -45,7 +45,7 @@ invariant_of-self g c =
 pub invariant_of-self-else-is_done : goal.invariant_of-self-else-is_done
 invariant_of-self-else-is_done g c =
     let s = c.args.self.now in
-    let b = s.tape.bytes.now in
+    let b = s.row_buffer.bytes.now in
     let a = c.set_mask.new.self.bytes.now in
     let i = c.args.row in
     let seat = c.args.seat in
@@ -67,7 +67,7 @@ invariant_of-self-else-is_done g c =
 pub returns-then-is_done-clause-lists : goal.returns-then-is_done-clause-lists
 returns-then-is_done-clause-lists g c =
     let s = c.args.self.now in
-    let b = s.tape.bytes.now in
+    let b = s.row_buffer.bytes.now in
     let a = c.close_up.new.self.bytes.now in
     let i = c.args.row in
     let seat = c.args.seat in
@@ -82,7 +82,7 @@ returns-then-is_done-clause-lists g c =
 pub returns-else-is_done-clause-lists : goal.returns-else-is_done-clause-lists
 returns-else-is_done-clause-lists g c =
     let s = c.args.self.now in
-    let b = s.tape.bytes.now in
+    let b = s.row_buffer.bytes.now in
     let a = c.set_mask.new.self.bytes.now in
     let i = c.args.row in
     let seat = c.args.seat in
@@ -95,7 +95,7 @@ returns-else-is_done-clause-lists g c =
 pub returns-then-is_done-clause-row : goal.returns-then-is_done-clause-row
 returns-then-is_done-clause-row g c =
     let s = c.args.self.now in
-    let b = s.tape.bytes.now in
+    let b = s.row_buffer.bytes.now in
     let i = c.args.row in
     let seat = c.args.seat in
     let e = c.close_up.ensures in
@@ -107,7 +107,7 @@ returns-then-is_done-clause-row g c =
 pub returns-else-is_done-clause-row : goal.returns-else-is_done-clause-row
 returns-else-is_done-clause-row g c =
     let s = c.args.self.now in
-    let b = s.tape.bytes.now in
+    let b = s.row_buffer.bytes.now in
     let a = c.set_mask.new.self.bytes.now in
     let i = c.args.row in
     let seat = c.args.seat in

@@ -1,5 +1,5 @@
 use Rattle.std.proofs.Common.{◌<◌, ◌^◌, ◌==◌, ap, rules}
-use Rattle.spool.specs.MaskLaws.{ones_seats}
+use Rattle.spool.specs.MaskLemmas.{ones_seats}
 use Rattle.spool.proofs.masks.is_done.Goals as goal
 
 pub returns-clause-seats : goal.returns-clause-seats

@@ -1,7 +1,7 @@
 use Rattle.std.proofs.Common.{take}
 use Rattle.std.specs.Fmt.{HasWritten, IsPlainFormatter}
 use Rattle.std.specs.List.{flat_map}
-use Rattle.branch.specs.Lines.{after_space}
+use Rattle.branch.specs.StepLines.{after_space}
 use Rattle.branch.proofs.line.NamesDisplay.fmt.Given as goal
 
 abbrev pub invariant-loop-letter : goal.invariant-loop-letter

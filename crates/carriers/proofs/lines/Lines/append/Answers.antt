@@ -1,6 +1,6 @@
 use Rattle.std.proofs.Common.{◌≡◌, ◌+◌, ◌*◌, ◌≤◌, length, slice_index, ap, ◌∙◌, arith, rules}
 use borrow.Rule.Slice.PartMut.{put_mid}
-use Rattle.carriers.specs.LineLaws.{queue_end}
+use Rattle.carriers.specs.LineLemmas.{queue_end}
 use Rattle.carriers.proofs.Counts.{other_waiting}
 use Rattle.carriers.proofs.Rows.{cut, only_part, written_in_part}
 use Rattle.carriers.proofs.lines.Lines.append.Goals as goal

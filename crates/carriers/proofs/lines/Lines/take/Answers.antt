@@ -1,6 +1,6 @@
 use Rattle.std.proofs.Common.{◌≡◌, ◌+◌, ◌*◌, ◌<◌, ◌≤◌, length, slice_index, refl, ap, ◌∙◌, arith, rules}
 use borrow.Rule.Slice.PartMut.{put_mid}
-use Rattle.carriers.specs.LineLaws.{queue_end}
+use Rattle.carriers.specs.LineLemmas.{queue_end}
 use Rattle.carriers.proofs.Counts.{within_set, beyond_set, other_waiting, own_waiting}
 use Rattle.carriers.proofs.Rows.{cut, moved_in_part, only_part, read_in_part, taken_out}
 use Rattle.carriers.proofs.lines.Lines.take.Goals as goal

@@ -1,7 +1,7 @@
 use Rattle.std.proofs.Common.{take}
 use Rattle.std.specs.Fmt.{HasWritten, IsPlainFormatter}
 use Rattle.std.specs.List.{flat_map}
-use Rattle.listing.specs.Lines.{after_comma}
+use Rattle.listing.specs.ListingLines.{after_comma}
 use Rattle.listing.proofs.line.EntriesDisplay.fmt.Given as goal
 
 abbrev pub invariant-loop-entry : goal.invariant-loop-entry

@@ -1,10 +1,10 @@
 use Rattle.std.proofs.Common.{ℕ, ◌*◌, ◌<◌, List, length, sym, refl, ap, ◌∙◌, subst, arith}
 use Rattle.std.proofs.lemmas.List.{length-drop}
 use Rattle.records.specs.Reading.{parts_left, read_answer}
-use Rattle.records.specs.Readers.{ahead, next_answer, next_index, next_parts}
+use Rattle.records.specs.Readers.{bytes_ahead, next_answer, next_index, next_parts}
 use Rattle.records.specs.declared.record.TheConstants.{RECORD_SIZE}
 use Rattle.records.specs.Records.{wrong_front}
-use Rattle.records.specs.Naming.{Named}
+use Rattle.records.specs.Naming.{NamedByte}
 use Rattle.records.proofs.Finding.{found_right, found_wrong, named_byte, next_part, ok_err}
 use Rattle.records.proofs.RoundTrip.{undoes_as}
 use Rattle.records.proofs.reader.Reader.next.Goals as goal
@@ -13,7 +13,7 @@ pub returns-in-Err : goal.returns-in-Err
 returns-in-Err g c =
     let form = g.B.Body.form in
     let index : ℕ = c.args.self.now.index in
-    let bs : List ℕ = ahead c.args.self.now in
+    let bs : List ℕ = bytes_ahead c.args.self.now in
     let part = next_part c.args.self.now.bytes.now index in
     let some : 0 < length bs = omega (arith, length-drop (RECORD_SIZE * index) c.args.self.now.bytes.now) in
     let old = c.args.parts.now in
@@ -28,14 +28,14 @@ returns-in-Err g c =
       lent = refl;
       filled = found.1 ∙ ap (next_parts form bs old) (sym found.0);
       undoes = undoes_as form g.met.B.Body.lawful _ bs new part (λ e. cc) (λ e. cc) told.undoes;
-      named = λ fault e. subst (λ l. Named form l fault.byte) part (subst (Named form _) (ap (λ r. named_byte r) e) (told.named c.in-Err.fault refl));
+      named = λ fault e. subst (λ l. NamedByte form l fault.byte) part (subst (NamedByte form _) (ap (λ r. named_byte r) e) (told.named c.in-Err.fault refl));
     }
 
 pub returns-in-Ok : goal.returns-in-Ok
 returns-in-Ok g c =
     let form = g.B.Body.form in
     let index : ℕ = c.args.self.now.index in
-    let bs : List ℕ = ahead c.args.self.now in
+    let bs : List ℕ = bytes_ahead c.args.self.now in
     let part = next_part c.args.self.now.bytes.now index in
     let some : 0 < length bs = omega (arith, length-drop (RECORD_SIZE * index) c.args.self.now.bytes.now) in
     let old = c.args.parts.now in

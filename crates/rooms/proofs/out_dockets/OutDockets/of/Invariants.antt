@@ -7,6 +7,6 @@ use Rattle.rooms.proofs.out_dockets.OutDockets.of.Given as goal
 -- the dockets of the seats so far
 abbrev pub invariant-loop-seat : goal.invariant-loop-seat
 invariant-loop-seat l = record {
-  so_far : l.slips.items ≡ dockets_below (state l.room) l.seat;
-  few : array_vec_len l.slips ≤ l.seat;
+  so_far : l.ids.items ≡ dockets_below (state l.room) l.seat;
+  few : array_vec_len l.ids ≤ l.seat;
 }

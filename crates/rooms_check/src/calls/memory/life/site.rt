@@ -14,8 +14,8 @@ use letters::parts::Parts;
 use letters::refusal::Refusal;
 use letters::stamp::Stamp;
 use letters::text::Text;
-use lives::moves::Move;
-use lives::reply::Reply;
+use lives::operation::Operation;
+use lives::response::Response;
 use pair::Pair;
 use records::fault::Fault;
 use records::file::{load, save};
@@ -23,7 +23,7 @@ use records::load_refusal::LoadRefusal;
 use records::reader::Reader;
 use records::record::read_record;
 use rooms::run;
-use seats::slip::Slip;
+use seats::docket_id::DocketId;
 use sheets::sheet::draw_up;
 use spool::Spool;
 use std::alloc::{AllocError, Global};
@@ -184,7 +184,7 @@ impl<B: ScriptBody, C: Carrier<Body = B> + Drop, K: ScriptSheet<Body = B> + Drop
     }
 }
 
-// The most steps, and the most replies, of a run that is checked.
+// The most steps, and the most responses, of a run that is checked.
 const MOST_STEPS: u16 = 8;
 
 // Makes a call at a room; a docket that it brings may be the other room's.
@@ -238,24 +238,27 @@ fn draw_up_at<B: ScriptBody, K: ScriptSheet<Body = B>>(
 }
 
 // So many steps; which they are does not matter.
-fn some_steps<B: Copy>(alloc: Global, count: u16) -> Result<Vec<Move<B, Slip>>, AllocError> {
+fn some_steps<B: Copy>(
+    alloc: Global,
+    count: u16,
+) -> Result<Vec<Operation<B, DocketId>>, AllocError> {
     let mut steps = Vec::new(alloc);
     for _ in 0..count.min(MOST_STEPS) {
-        steps.push(Move::Show(0))?;
+        steps.push(Operation::Show(0))?;
     }
     Ok(steps)
 }
 
-// Places for so many replies.
+// Places for so many responses.
 fn some_replies(
     alloc: Global,
     count: u16,
-) -> Result<Vec<Result<Reply<Slip>, Refusal>>, AllocError> {
-    let mut replies = Vec::new(alloc);
+) -> Result<Vec<Result<Response<DocketId>, Refusal>>, AllocError> {
+    let mut responses = Vec::new(alloc);
     for _ in 0..count.min(MOST_STEPS) {
-        replies.push(Err(Refusal::TooShort))?;
+        responses.push(Err(Refusal::TooShort))?;
     }
-    Ok(replies)
+    Ok(responses)
 }
 
 impl<B: ScriptBody, C: Carrier<Body = B> + Drop, K: ScriptSheet<Body = B> + Drop> Site<B, C, K> {
@@ -286,10 +289,10 @@ impl<B: ScriptBody, C: Carrier<Body = B> + Drop, K: ScriptSheet<Body = B> + Drop
         }
     }
 
-    // Asks whether the draft can be run by so many steps, with so many replies.
+    // Asks whether the draft can be run by so many steps, with so many responses.
     fn check_run(&self, call: &ScriptCall) -> Result<AnswerLine, AllocError> {
         let steps = some_steps::<B>(self.alloc, call.number)?;
-        let replies = some_replies(self.alloc, call.struck_number)?;
+        let responses = some_replies(self.alloc, call.struck_number)?;
         let Some(draft) = self.room(call).draft() else {
             return Ok(AnswerLine::Unfit);
         };
@@ -307,7 +310,7 @@ impl<B: ScriptBody, C: Carrier<Body = B> + Drop, K: ScriptSheet<Body = B> + Drop
             holds,
             carrier,
             steps.as_slice(),
-            replies.as_slice(),
+            responses.as_slice(),
         );
         Ok(AnswerLine::of(answer))
     }

@@ -13,7 +13,7 @@ use Rattle.spool.proofs.carrying.SpoolCarrier.draw.Goals as goal
 pub returns-clause-leaves : goal.returns-clause-leaves
 returns-clause-leaves g c =
     let s = c.args.self.now in
-    let b = s.tape.bytes.now in
+    let b = s.row_buffer.bytes.now in
     let i = c.in-Some.row in
     let seat = c.args.seat in
     let place = c.args.place in

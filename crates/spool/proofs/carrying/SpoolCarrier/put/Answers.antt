@@ -4,7 +4,7 @@ use Rattle.std.proofs.lemmas.Bool.{and_parts, cond-false, cond-true, eqb-false, 
 use Rattle.carriers.proofs.Appended.{put_appended}
 use Rattle.std.proofs.lemmas.Grind.{common_steps}
 use Rattle.records.specs.declared.record.TheConstants.{RECORD_SIZE}
-use Rattle.spool.specs.declared.tape.TheConstants.{ROW_SIZE}
+use Rattle.spool.specs.declared.row_buffer.TheConstants.{ROW_SIZE}
 use Rattle.spool.specs.Decoding.{letter_of}
 use Rattle.spool.specs.Masks.{all_but}
 use Rattle.letters.specs.Numbers.{bytes_of_16}
@@ -23,7 +23,7 @@ use Rattle.spool.proofs.carrying.SpoolCarrier.put.Goals as goal
 pub invariant_of-self : goal.invariant_of-self
 invariant_of-self g c =
     let s = c.args.self.now in
-    let b = s.tape.bytes.now in
+    let b = s.row_buffer.bytes.now in
     let mid = c.write.new.self.bytes.now in
     let a = c.set_mask.new.self.bytes.now in
     let poster = c.poster-poster.result in
@@ -46,7 +46,7 @@ invariant_of-self g c =
 pub returns-then-not-is_done : goal.returns-then-not-is_done
 returns-then-not-is_done g c =
     let s = c.args.self.now in
-    let b = s.tape.bytes.now in
+    let b = s.row_buffer.bytes.now in
     let mid = c.write.new.self.bytes.now in
     let a = c.set_mask.new.self.bytes.now in
     let x = c.args.letter.now in
@@ -87,7 +87,7 @@ returns-then-not-is_done g c =
 pub returns-else-not-is_done : goal.returns-else-not-is_done
 returns-else-not-is_done g c =
     let s = c.args.self.now in
-    let b = s.tape.bytes.now in
+    let b = s.row_buffer.bytes.now in
     let x = c.args.letter.now in
     let form = g.B.Body.form in
     let blank = g.B.Body.blank in

@@ -2,7 +2,7 @@ use Rattle.std.proofs.Common.{◌<◌, length, sym, ap, ◌∙◌, arith}
 use Rattle.std.proofs.lemmas.List.{get_or-map}
 use Rattle.letters.specs.Letters.{parts_of}
 use Rattle.carriers.specs.Lines.{lines_of}
-use Rattle.carriers.specs.LineLaws.{length_waiting}
+use Rattle.carriers.specs.LineLemmas.{length_waiting}
 use Rattle.carriers.proofs.Decisions.{draw_ok}
 use Rattle.carriers.proofs.lines.carrying.LinesCarrier.draw.Goals as goal
 

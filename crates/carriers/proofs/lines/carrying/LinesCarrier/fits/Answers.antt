@@ -4,7 +4,7 @@ use Rattle.std.proofs.lemmas.Iterator.Search.{all_from_yields_List}
 use Rattle.std.proofs.lemmas.Bool.{lt-ltb}
 use Rattle.letters.proofs.Bounded.{each_listed}
 use Rattle.carriers.specs.Lines.{HasPlaces, lines_of, others_free}
-use Rattle.carriers.specs.LineLaws.{fits_decides}
+use Rattle.carriers.specs.LineLemmas.{fits_decides}
 use Rattle.carriers.proofs.lines.carrying.LinesCarrier.fits.Goals as goal
 
 pub returns-then-poster-self : goal.returns-then-poster-self

@@ -2,7 +2,7 @@ use Rattle.std.proofs.Common.{◌≡◌, ◌+◌, ◌<◌, true, ltb, get_or, sy
 use Rattle.std.proofs.lemmas.Bool.{and_parts}
 use Rattle.carriers.specs.declared.lines.Lines.{Lines}
 use Rattle.carriers.specs.Lines.{others_free}
-use Rattle.carriers.specs.LineLaws.{free_at}
+use Rattle.carriers.specs.LineLemmas.{free_at}
 use Rattle.carriers.proofs.Sending.{Sent, sent_skip, sent_more, sent_all, sent_exact, sent_table}
 use Rattle.carriers.proofs.lines.carrying.LinesCarrier.put.Goals as goal
 use Rattle.carriers.proofs.lines.carrying.LinesCarrier.put.Goals.{then-other-poster, else-other-poster}

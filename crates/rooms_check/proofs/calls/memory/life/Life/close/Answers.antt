@@ -1,6 +1,6 @@
 use Rattle.std.proofs.Common.{◌≡◌, true, Some, Ok, sym, ap, ◌∙◌, subst}
-use Rattle.letters.specs.Refusals.{told}
-use Rattle.rooms.specs.Reading.{close_check}
+use Rattle.letters.specs.Refusals.{as_answer}
+use Rattle.rooms.specs.RoomReading.{close_check}
 use Rattle.rooms.specs.States.{state}
 use Rattle.rooms_check.specs.Hands.{good_in, numbered_as}
 use Rattle.rooms_check.proofs.Hands.{closed_in}
@@ -12,7 +12,7 @@ invariant_of-self c =
     let room = c.in-Some.room in
     let gone = c.take.ensures.after in
     let was : self.room ≡ Some room = c.in-Some.is in
-    let can : Ok tt ≡ close_check (state room) = ap (told (λ u. u)) (sym c.in_default-check_close.is) ∙ c.check_close.ensures in
+    let can : Ok tt ≡ close_check (state room) = ap (as_answer (λ u. u)) (sym c.in_default-check_close.is) ∙ c.check_close.ensures in
     record {
       drafted = self.drafted;
       numbered = ap (numbered_as self.number) gone;

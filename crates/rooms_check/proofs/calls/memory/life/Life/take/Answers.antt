@@ -1,6 +1,6 @@
 use Rattle.std.proofs.Common.{◌≡◌, true, Some, Option, length, ◌==◌, ap, ◌∙◌, subst}
-use Rattle.letters.specs.Refusals.{told}
-use Rattle.seats.specs.Outcomes.{take_check, taken_as}
+use Rattle.letters.specs.Refusals.{as_answer}
+use Rattle.seats.specs.Outcomes.{take_as_answer, take_check}
 use Rattle.rooms.specs.declared.docket.Docket.{Docket}
 use Rattle.rooms.specs.States.{state}
 use Rattle.rooms_check.specs.Hands.{good_in, numbered_as}
@@ -16,7 +16,7 @@ invariant_of-self-2 g c =
     let carrier' = g.C.Carrier.meaning c.take.new.carrier in
     let holds = c.args.holds.now in
     let r = take_check (state room) (length c.args.logs.now) (length holds) carrier c.args.seat c.args.place in
-    let answer = told taken_as c.take.result in
+    let answer = as_answer take_as_answer c.take.result in
     let kept : (hand : Option Docket) → good_in self.room hand ≡ true → good_in (Some room') hand ≡ true =
     λ hand good.
     take_in room room' hand (subst (λ x. good_in x hand ≡ true) c.in-Some.is good) r holds carrier c.args.seat c.args.place answer c.take.new.holds carrier' c.take.ensures.take in
