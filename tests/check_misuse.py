@@ -5,7 +5,7 @@ usage: check_misuse.py
 
 Posting to a draft does not compile; one opens it first. Letting a docket fall does not compile; one sends or parks it. Nor
 does what only the crate of rooms may do: to make a docket, to change one, to take one apart, to send a letter by the numbers
-of its docket, to tell a seat anything. Nor does to spend a docket twice, to enrol in an open room, to work a closed one.
+of its docket, to write a room's seat. Nor does to spend a docket twice, to enrol in an open room, to work a closed one.
 
 The crates are made in a temporary folder, over copies of the crates that they stand on. Each misuse is a function in a crate
 of its own, and `rt check` must refuse it first at the line and for the item that are named here. An item of the crate of rooms
@@ -97,7 +97,7 @@ def signature(result, *parameters):
 
 
 DOCKET = ["rooms::docket::Docket"]
-SLIP = [*DOCKET, "seats::docket_id::DocketId"]
+DOCKET_ID = [*DOCKET, "seats::docket_id::DocketId"]
 ROOM = ["rooms::room::Room"]
 REFUSAL = ["letters::refusal::Refusal"]
 LETTERS = ["letters::job::Job", "letters::letter::Letter"]
@@ -115,7 +115,7 @@ ON_LINES = "lines: &mut Lines<Job>"
 POST = "room.post(logs, holds, 0, Job::Add(7))"
 
 READ_NUMBER = function(DOCKET, "(docket: &Docket) -> u16", "docket.number()")
-READ_SLIP = function(SLIP, "(docket: &Docket) -> DocketId", "docket.id()")
+READ_ID = function(DOCKET_ID, "(docket: &Docket) -> DocketId", "docket.id()")
 CHECK_CLOSE = function([*ROOM, *REFUSAL], "(room: &Room) -> Result<(), Refusal>", "room.check_close()")
 
 
@@ -206,7 +206,7 @@ MISUSES = [
         HIDDEN,
         function(DOCKET, "(docket: Docket) -> Docket", "docket"),
     ),
-    Misuse("docket_made_of_a_slip", function(SLIP, "(docket_id: DocketId) -> Docket", "Docket::of(docket_id)"), 0, "of", HIDDEN, READ_SLIP),
+    Misuse("docket_made_of_its_id", function(DOCKET_ID, "(docket_id: DocketId) -> Docket", "Docket::of(docket_id)"), 0, "of", HIDDEN, READ_ID),
     Misuse(
         "docket_taken_apart",
         function(DOCKET, "(docket: Docket) -> u16", "let Docket { room: _, seat: _, number } = docket;", "number"),
@@ -216,12 +216,12 @@ MISUSES = [
         READ_NUMBER,
     ),
     Misuse(
-        "docket_turned_into_a_slip",
-        function(SLIP, "(docket: Docket) -> DocketId", "docket.into_id()"),
+        "docket_turned_into_its_id",
+        function(DOCKET_ID, "(docket: Docket) -> DocketId", "docket.into_id()"),
         0,
         "into_id",
         HIDDEN,
-        READ_SLIP,
+        READ_ID,
     ),
     *[
         Misuse(

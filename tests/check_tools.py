@@ -1,13 +1,14 @@
 #!/usr/bin/env python3
-"""What the tools say when something is wrong: tools/steps.py, tools/letters.py, tools/picture.py and tools/first_run.sh.
+"""What the tools say when something is wrong: tools/steps.py, tools/letters.py, tools/picture.py and tools/first_run.sh; and
+what tools/rename.py turns.
 
 usage: check_tools.py
 
 Each of the first three is run on inputs that cannot be read, on outputs that take nothing or not all, with wrong arguments, and
 on lines that have no form, with and without PYTHONUNBUFFERED. Then it must end with status 1 and one short line of plain
 characters on standard error, and it must have written nothing but the beginning of what it writes otherwise; a folder as
-standard input is refused by python3 itself. Lines that mean the same must give the same bytes. The last one is run with small
-scripts in place of `rt`.
+standard input is refused by python3 itself. Lines that mean the same must give the same bytes. first_run.sh is run with small
+scripts in place of `rt`. rename.py must find nothing to turn here, and turn a small tree of older names.
 """
 
 import errno
@@ -403,6 +404,52 @@ def all_results(folder):
     yield from same_lines(steps, letters)
     yield from spoilt_lines(steps, letters)
     yield from first_runs(folder)
+    yield from renames(folder)
+
+
+# A small tree of older names: its files, and what they must be turned into. A definition goes by where it stands, and a field,
+# a text in quotes and a word of a comment stay.
+OLDER = {
+    "letters/specs/Refusals.antt": "-- told\nabbrev pub told : X\ntold x = x\n",
+    "causality/specs/History.antt": "abbrev pub told : X\ntold f = f\n",
+    "lives/specs/Worked.antt": "use Rattle.causality.specs.History.{told}\npub record Moment : X where\n  pub told : X\na = told a.told\n",
+    "lives/specs/Lib.antt": "pub mod Worked\n",
+    "rooms/src/a.rt": "// `told`\nuse seats::slip::Slip;\nghost use Rattle.letters.specs.Refusals.{told};\n"
+    'fn told()\n    ensures { told told ≡ codes "told" }\n{\n    let slip = self.told;\n}\n',
+}
+TURNED = {
+    "letters/specs/Refusals.antt": "-- told\nabbrev pub as_answer : X\nas_answer x = x\n",
+    "causality/specs/History.antt": "abbrev pub map_letters : X\nmap_letters f = f\n",
+    "lives/specs/Reachability.antt": "use Rattle.causality.specs.History.{map_letters}\npub record Configuration : X where\n  pub told : X\n"
+    "a = map_letters a.told\n",
+    "lives/specs/Lib.antt": "pub mod Reachability\n",
+    "rooms/src/a.rt": "// `told`\nuse seats::docket_id::DocketId;\nghost use Rattle.letters.specs.Refusals.{as_answer};\n"
+    'fn told()\n    ensures { as_answer as_answer ≡ codes "told" }\n{\n    let docket_id = self.told;\n}\n',
+}
+
+
+def tree(root):
+    return {p.relative_to(root).as_posix(): p.read_bytes() for p in sorted(root.rglob("*")) if p.is_file()}
+
+
+def renames(folder):
+    today, older = Path(folder) / "today", Path(folder) / "older"
+    shutil.copytree(HOME / "crates", today / "crates", ignore=shutil.ignore_patterns("out", "target"))
+    shutil.copytree(HOME / "docs", today / "docs")
+    shutil.copy(HOME / "README.md", today)
+    rename = Program(sys.executable)
+    before = tree(today)
+    status, out, error = rename.run([str(HOME / "tools/rename.py"), str(today)], b"")
+    yield "nothing is left to turn", (status, out, error) == (0, b"0 words turned\n", b"") and tree(today) == before
+    for name, text in OLDER.items():
+        path = older / "crates" / name
+        path.parent.mkdir(parents=True, exist_ok=True)
+        path.write_text(text, encoding="utf8")
+    status, _, error = rename.run([str(HOME / "tools/rename.py"), str(older)], b"")
+    turned = {name: data.decode() for name, data in tree(older / "crates").items()}
+    yield "older names are turned", (status, error, turned) == (0, b"", TURNED)
+    status, out, error = rename.run([str(HOME / "tools/rename.py"), folder], b"")
+    yield "no crates", (status, out) == (1, b"") and error.startswith(b"rename.py: there is no folder crates in ")
 
 
 def main():

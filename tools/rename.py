@@ -123,6 +123,7 @@ lives rooms branch: move operation
 lives rooms rooms_check: replies responses, reply response
 branch bench rooms_check: Desk Session, desk session
 sheets sheet_kinds: Placed OrderedRow
+*: spool::tape spool::row_buffer
 spool: Tape RowBuffer, tape row_buffer
 rooms: tell store_seat, check_visit check_tables_and_seat, knows has_docket_out, newest newest_docket, keep hold_or_discard
 rooms: note_docket record_docket_event, may_carry check_carrier
@@ -154,7 +155,7 @@ lives rooms rooms_check: reply response, replies responses
 
 # What a definition is turned by where a word of its spelling has two senses in one file: the one that calls it.
 ONLY = {
-    ("rooms.States", "slip"): r"slip(?= (?:docket|self|d|result|p\.0)(?![\w']))|slip(?= c\.)|(?<=told )slip|(?<=replied )slip|(?<=ap )slip|(?<=[{ ])slip(?=[,}])"
+    ("rooms.States", "slip"): r"slip(?= (?:docket|self|d|result|p\.0)(?![\w']))|slip(?= c\.)|(?<=told )slip|(?<=as_answer )slip|(?<=answer_of_response )slip|(?<=ap )slip|(?<=[{ ])slip(?=[,}])"
     r"|(?<=pub )slip(?= :)",
 }
 
@@ -436,6 +437,8 @@ def main():
     if len(sys.argv) > 2:
         sys.exit("usage: python3 tools/rename.py [ROOT]")
     root = Path(sys.argv[1] if len(sys.argv) > 1 else ".").resolve()
+    if not (root / "crates").is_dir():
+        sys.exit(f"rename.py: there is no folder crates in {root}")
     specs, modules, code = spec_entries(), module_entries(), code_entries()
     notes, count = [], 0
     paths = sorted(p for p in root.glob("crates/*/**/*") if p.suffix in (".rt", ".antt", ".edit") and "out" not in p.relative_to(root).parts and p.is_file())
@@ -489,7 +492,8 @@ def main():
         if folder.is_dir() and not any(folder.iterdir()):
             folder.rmdir()
     print(f"{count} words turned")
-    print("\n".join(sorted(set(notes))))
+    if count:
+        print("".join(f"{note}\n" for note in sorted(set(notes))), end="")
 
 
 if __name__ == "__main__":

@@ -22,7 +22,7 @@ use sheet_kinds::job_list::JobList;
 use sheet_kinds::timeline::Timeline;
 use sheets::sheet::Sheet;
 use spool::Spool;
-use spool::tape::ROW_SIZE;
+use spool::row_buffer::ROW_SIZE;
 use std::alloc::AllocError;
 use std::io;
 use std::io::Read;
@@ -67,7 +67,7 @@ struct Setting {
 impl Setting {
     // How many letters the room has.
     fn letters(&self) -> usize
-        ensures { result ≡ 16 * self.now.quota }
+        ensures { result ≡ SEATS * self.now.quota }
     {
         SEATS * self.quota as usize
     }

@@ -1,6 +1,7 @@
 -- When a put or a draw is accepted, and when it is refused for which reason.
 use Rattle.std.proofs.Common.{◌≡◌, ℕ, ◌<◌, ◌≤◌, true, map, get_or, Ok, Err, Result, sym, arith}
 use Rattle.std.proofs.lemmas.Bool.{lt-ltb, le-ltb}
+use Rattle.std.specs.Result.{OnErr}
 use Rattle.letters.specs.declared.refusal.Refusal.{Refusal}
 use Rattle.letters.specs.Refusals.{Reason, as_answer, plain, reason_of}
 use Rattle.carriers.specs.Meaning.{Meaning, PutOn, Drawn, PutLeaves, DrawLeaves, waits_at, put_answer, draw_answer}
@@ -21,6 +22,14 @@ module _ {L : Type 0} (m : Meaning L) where
 -- no answer both accepts and refuses
 clash : (u : Unit {0}) (w : Reason) {X : Type 0} → ◌≡◌ {A = Result (Unit {0}) Reason} (Err w) (Ok u) → X
 clash u w e = let z : ◌≡◌ {A = ℕ} 0 1 = cc in absurd (omega arith)
+
+pub not_both : {w : Reason} {X : Type 0} → ◌≡◌ {A = Result (Unit {0}) Reason} (Err w) (Ok tt) → X
+not_both {w} e = clash tt w e
+
+-- where the answer accepts, there is nothing to show of a refusal
+pub no_refusal : (r : Result (Unit {0}) Refusal) (P : Type 0) → as_answer (λ u. u) r ≡ Ok tt → OnErr r P
+no_refusal (Ok u) P took = tt
+no_refusal (Err why) P took = not_both took
 
 -- what the answer says of what is left
 module _ {L : Type 0} (m m' : Meaning L) where

@@ -11,7 +11,8 @@ use Rattle.letters.specs.Order.{covers, ready, side_by_side}
 use Rattle.letters.specs.Refusals.{Reason}
 use Rattle.rooms.specs.Drafts.{DraftState, draft_with_name, enrol_answer, enrol_check, state_of_new_draft}
 use Rattle.sheet_kinds.specs.declared.open_job.OpenJob.{OpenJob}
-use Rattle.sheet_kinds.specs.JobLists.{job_does, open_job}
+use Rattle.sheet_kinds.specs.JobLists.{job_does, job_list_kind, open_job}
+use Rattle.sheet_kinds.specs.Timelines.{timeline_kind}
 use Rattle.sheets.specs.Pages.{page_count}
 use Rattle.spool.specs.Masks.{all_but, full, seats_marked}
 use Rattle.spool.specs.Rows.{row_fits, spool_answer}
@@ -55,6 +56,8 @@ pub data Case : Type 0 where
   takes_seats : (quota seats number : ℕ) → Case
   -- how many pages do so many rows take?
   takes_pages : (rows pages : ℕ) → Case
+  -- how many letters can be entered on a timeline, and how many on a job list?
+  have_places : (timeline list : ℕ) → Case
 
 abbrev same_answer : Bool → Bool → Bool
 same_answer a b = cond a b (not b)
@@ -90,6 +93,7 @@ holds (leaves_jobs before m after) = same_jobs (job_does m.body m before) after
 holds (takes_seats quota seats number) =
     (drafted_so_far quota seats).count == seats && no_number (enrol_check (drafted_so_far quota seats) (seats + 1)) == number
 holds (takes_pages rows pages) = page_count rows == pages
+holds (have_places timeline list) = timeline_kind.places == timeline && job_list_kind.places == list
 
 abbrev pub cases : List Case
 cases =
@@ -113,6 +117,7 @@ cases =
     ∷ takes_pages 0 0
     ∷ takes_pages 20 1
     ∷ takes_pages 21 2
+    ∷ have_places 256 128
     ∷ []
 
 abbrev every_holds : List Case → Bool

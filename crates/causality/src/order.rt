@@ -35,7 +35,8 @@ fn was_known<B: Copy>(m: &Letter<B>, k: &Letter<B>) -> bool
     k.covers(m.id()) && !m.is_same(k)
 }
 
-// The letter 0.1 with this body, stamped as the first post in a room; a run brings it, and an answering letter, to every seat of three.
+// The letter 0.1 with this body, stamped as the first post in a room. A run brings it, and a letter that answers it,
+// to every seat of three.
 pub fn first_letter<B: Copy>(body: B) -> Letter<B>
     ensures parts { parts_of result ≡ first_parts body }
     ensures arrives { Arrives result }

@@ -2,7 +2,6 @@
 use Rattle.std.proofs.Common.{inl, ◌⊎◌, ◌≡◌, ℕ, zero, suc, ◌<◌, true, false, ◌&&◌, ◌==◌, List, [], ◌++◌, length, get_or, replicate, Ok, Err, OnOk, Result, sym, refl, ap, ◌∙◌, subst, ⊎_elim, arith, length-append}
 use lib.ListN.{length-replicate}
 use Rattle.std.specs.List.{AllByRecursion as All}
-use Rattle.std.specs.Result.{OnErr}
 use Rattle.std.proofs.ByRecursion.{All-append, All-get_or, all_shuffled}
 use Rattle.std.proofs.lemmas.List.{get_or-map}
 use Rattle.std.proofs.lemmas.List.Sorted.{length_permutation}
@@ -14,7 +13,7 @@ use Rattle.letters.specs.Letters.{parts_of}
 use Rattle.letters.specs.Refusals.{Reason, as_answer, plain}
 use Rattle.carriers.specs.Putting.{Gains}
 use Rattle.carriers.specs.Meaning.{DrawLeaves, Empty, LawfulMeaning, Meaning, PutOn, put_answer, waits_at}
-use Rattle.carriers.proofs.Decisions.{put_ok}
+use Rattle.carriers.proofs.Decisions.{not_both, put_ok}
 use Rattle.delivery.specs.Passing.{Passes, first_answer, parts_by, pass_answer}
 
 module _ {L : Type 0} (x : L) where
@@ -62,19 +61,10 @@ module _ {L : Type 0} (x : L) where
       some in
       rw (put_ok m poster h f, lt-ltb seat m.seats l, waits) refl
 
--- no answer both accepts and refuses
-no_yes : {w : Reason} → ◌≡◌ {A = Result (Unit {0}) Reason} (Err w) (Ok tt) → ⊥
-no_yes e = let z : ◌≡◌ {A = ℕ} 0 1 = cc in omega arith
-
 -- what holds where an answer accepts, of an answer that accepts
 pub after_yes : (r : Result (Unit {0}) Refusal) (P : Type 0) → as_answer (λ u. u) r ≡ Ok tt → OnOk r P → P
 after_yes (Ok u) P took p = p
-after_yes (Err why) P took p = absurd (no_yes took)
-
--- and of its refusal there is nothing to show
-pub on_no : (r : Result (Unit {0}) Refusal) (P : Type 0) → as_answer (λ u. u) r ≡ Ok tt → OnErr r P
-on_no (Ok u) P took = tt
-on_no (Err why) P took = absurd (no_yes took)
+after_yes (Err why) P took p = not_both took
 
 -- a seat that is not the poster draws
 pub first_ok : (seats p seat : ℕ) → p < seats → seat < seats → ¬ (seat ≡ p) → first_answer seats p seat ≡ Ok tt
@@ -85,10 +75,10 @@ module _ {B C : Type 0} (meaning : C → Meaning (Letter B)) (puts : C → Lette
   pub passed : (mid : C) (r : Result (Unit {0}) Refusal) → as_answer (λ u. u) r ≡ Ok tt → puts c x mid → PutOn (meaning c) x.poster x (meaning mid)
       → DrawLeaves parts_of r (meaning mid) seat 0 (meaning after) lent filled → Passes meaning puts r c x seat lent after filled
   passed mid (Ok u) took once put left = (mid, once, put, left.0, left.1)
-  passed mid (Err why) took once put left = absurd (no_yes took)
+  passed mid (Err why) took once put left = not_both took
 
   nothing_filled : (r : Result (Unit {0}) Refusal) (why : Reason) → as_answer (λ u. u) r ≡ Err why → Passes meaning puts r c x seat lent after filled → filled ≡ lent
-  nothing_filled (Ok u) why refused passes = absurd (no_yes (sym refused))
+  nothing_filled (Ok u) why refused passes = not_both (sym refused)
   nothing_filled (Err w) why refused passes = passes.1
 
   -- where nothing waited before, the letter is drawn by every other seat
@@ -98,7 +88,7 @@ module _ {B C : Type 0} (meaning : C → Meaning (Letter B)) (puts : C → Lette
       let gains : Gains x [] ((meaning mid).waiting seat) = subst (λ l. Gains x l ((meaning mid).waiting seat)) (none seat) (put.lists.others seat h other) in
       let first = gained_first x ((meaning mid).waiting seat) gains in
       fill ∙ get_or-map parts_of ((meaning mid).waiting seat) 0 x lent first.0 ∙ ap parts_of (first.1 x)
-  own_filled (Err why) took none h other passes = absurd (no_yes took)
+  own_filled (Err why) took none h other passes = not_both took
 
 -- on a carrier with nothing waiting, a letter that is put is the first that another seat draws
 module _ {B C : Type 0} (meaning : C → Meaning (Letter B)) (puts : C → Letter B → C → Type 0) (c : C) (law : LawfulMeaning (meaning c)) (none : Empty (meaning c))

@@ -27,8 +27,8 @@ pass_answer m poster seat =
 
 -- C is the carrier: `meaning` says what it means, and `puts` what one put of it does.
 module _ {B C : Type 0} (meaning : C → Meaning (Letter B)) (puts : C → Letter B → C → Type 0) where
-  -- Accepted: one put led to a carrier `mid`, from which the seat drew the first that waited there. Refused: nothing moved. after
-  -- and filled are what is left in the end.
+  -- Accepted: one put led to a carrier `mid`, from which the seat drew the first that waited there. Refused: nothing moved. `after`
+  -- and `filled` are what is left in the end.
   abbrev pub Passes : {E : Type 0} → Result (Unit {0}) E → C → Letter B → ℕ → Parts B → C → Parts B → Type 0
   Passes (Ok _) c x seat lent after filled =
       (mid : C) × puts c x mid × PutOn (meaning c) x.poster x (meaning mid)

@@ -1,4 +1,4 @@
--- How one kind of body stands in a record.
+-- How bodies of a type stand in a record.
 use Rattle.std.specs.Prelude.{◌≡◌, ℕ, ◌<◌, ◌≤◌, Bool, true, List, length, Some, None, Option, slice_index}
 use Rattle.letters.specs.declared.body.TheConstants.{BODY_SPACE}
 

@@ -17,7 +17,7 @@ job_bytes (Strike id) = 2 ∷ id.poster ∷ bytes_of_16 id.number
 abbrev pub add_wrong : List ℕ → Option ℕ
 add_wrong bs = check (slice_index bs 0 == 1) 0 None
 
--- four bytes are a strike, of a letter that can be
+-- four bytes are a strike, of a name that a letter can have
 abbrev pub strike_wrong : List ℕ → Option ℕ
 strike_wrong bs =
     check (slice_index bs 0 == 2) 0

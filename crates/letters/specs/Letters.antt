@@ -25,7 +25,7 @@ module _ {B : Type 0} where
   abbrev pub letter_name : Letter B → Name
   letter_name m = name_from m.poster (number_of m)
 
-  -- some letter can have these parts, of a stamp with sixteen entries: the stamp's entry at the poster makes a name
+  -- whether some letter has these parts, where the stamp has sixteen entries: the poster is a seat, and its entry is not 0
   abbrev pub is_letter : Parts B → Bool
   is_letter p = is_name p.poster (entry_at p.stamp p.poster)
 

@@ -26,7 +26,7 @@ text_padded t =
     sym (take-append-drop t.len t.chars) ∙ ap (λ l. text_bytes t ++ l) t.blank
     ∙ ap (λ n. text_bytes t ++ replicate (LONGEST_TEXT - n) 0) (sym (length_of_text t))
 
--- the text of bytes in which nothing is wrong has these bytes
+-- the text of bytes in which nothing is wrong has these bytes, and zeros after them
 made_chars : (bs : List ℕ) (spoilt : Bool) (e : is_some (text_wrong bs) ≡ spoilt) → spoilt ≡ false
     → ((text_or_none bs spoilt e).chars ≡ padded LONGEST_TEXT bs) × ((text_or_none bs spoilt e).len ≡ length bs)
 unfolding text_or_none text_made

@@ -32,7 +32,7 @@ pub trait Body: Copy {
     fn has_length(kind: u8, len: u8) -> bool
         ensures { result ≡ form.has_length kind len };
 
-    // The first byte at which these are no body of this kind.
+    // The first byte at which these are not a body of this kind.
     fn wrong(kind: u8, bytes: &[u8]) -> Option<u8>
         ensures { result ≡ form.wrong kind bytes.now };
 

@@ -18,7 +18,7 @@ use Rattle.seats.specs.Seats.{allows, clock_at, docket_after, log_length, with_d
 use Rattle.lives.specs.Reachability.{Configuration, configuration_of}
 use Rattle.seats.specs.Invariants.{RoomInvariant, SeatInvariant}
 use Rattle.seats.proofs.Clocks.{clocked_kept, clocked_own, log_short}
-use Rattle.seats.proofs.Views.{log_gains, log_stays, told_seat}
+use Rattle.seats.proofs.Views.{log_gains, log_stays, written_seat}
 use Rattle.lives.proofs.Clocks.{one_longer}
 use Rattle.lives.proofs.Views.{at_seat, box_of, docketed_kept, elsewhere, hold_else, view}
 
@@ -77,7 +77,7 @@ module _ {B : Type 0} (w : Configuration B) (fit : RoomInvariant w.room) (logs' 
   short = log_short st.count st.quota fit.few (with_docket_event (seat_at st s) Post) kept s inside was.left
 
   told : seat_at (with_seat st s x) s ≡ x
-  told = told_seat st fit s inside x
+  told = written_seat st fit s inside x
 
   abbrev pub posted_moment : Configuration B
   posted_moment = configuration_of (room_with_post st s) logs' w.holds w.carrier

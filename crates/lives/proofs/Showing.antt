@@ -17,7 +17,7 @@ use Rattle.seats.specs.Invariants.{RoomInvariant, SeatInvariant}
 use Rattle.seats.proofs.Accepted.{Visited, visited}
 use Rattle.seats.proofs.Clocks.{clocked_kept, clocked_own, log_short, row_end, seat_kept}
 use Rattle.seats.proofs.Tables.{length-closed, length_part}
-use Rattle.seats.proofs.Views.{hold_loses, hold_stays, log_gains, log_stays, told_seat}
+use Rattle.seats.proofs.Views.{hold_loses, hold_stays, log_gains, log_stays, written_seat}
 use Rattle.lives.proofs.Clocks.{one_longer}
 use Rattle.lives.proofs.Splits.{First, first_at}
 use Rattle.lives.proofs.Views.{at_seat, box_of, elsewhere, view}
@@ -68,7 +68,7 @@ module _ {B : Type 0} (w : Configuration B) (fit : RoomInvariant w.room) (s k : 
   seat = seat_kept st fit s (omega (arith, at.inside, fit.few))
 
   told : seat_at (with_seat st s x) s ≡ x
-  told = told_seat st fit s at.inside x
+  told = written_seat st fit s at.inside x
 
   first : First (ready st.count st.quota s (seat_at st s).clock) H k m
   first = first_at _ H k m (sym was.1)

@@ -19,7 +19,7 @@ use Rattle.lives.specs.Reachability.{Configuration, configuration_of}
 use Rattle.seats.specs.Invariants.{RoomInvariant, SeatInvariant}
 use Rattle.seats.proofs.Clocks.{row_end, seat_kept}
 use Rattle.seats.proofs.Tables.{length_part}
-use Rattle.seats.proofs.Views.{hold_gains, hold_rests, told_seat}
+use Rattle.seats.proofs.Views.{hold_gains, hold_rests, written_seat}
 use Rattle.lives.proofs.Cut.{cut_one, cut_same}
 use Rattle.lives.proofs.Sending.{called}
 use Rattle.lives.proofs.Splits.{Nth, first_at, none_passes}
@@ -172,7 +172,7 @@ module _ {B : Type 0} (w : Configuration B) (fit : RoomInvariant w.room) (c' : M
 
   pub held_step : is_stray w.room s m ≡ false → is_repeat w.room w.holds s m ≡ false → WorldTake N Q s place m (view w) (view held_moment)
   held_step ok new =
-      let told = told_seat w.room fit s can.inside x in
+      let told = written_seat w.room fit s can.inside x in
       let free = (fine w.room s m ok).free in
       record {
         seat = can.inside;

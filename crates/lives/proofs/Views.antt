@@ -13,7 +13,7 @@ use Rattle.seats.specs.Seats.{clock_at, docket_after, log_length, with_docket_ev
 use Rattle.lives.specs.Reachability.{Configuration, configuration_of}
 use Rattle.seats.specs.Invariants.{RoomInvariant, SeatInvariant}
 use Rattle.seats.proofs.Clocks.{seat_kept}
-use Rattle.seats.proofs.Views.{other_seat, told_seat}
+use Rattle.seats.proofs.Views.{other_seat, written_seat}
 use Rattle.lives.proofs.Cut.{cut_same, cut_two}
 
 module _ {B : Type 0} where
@@ -50,18 +50,18 @@ module _ {B : Type 0} (w : Configuration B) (fit : RoomInvariant w.room) (s : �
 
   module _ (logs' holds' : List (Letter B)) (c' : Meaning (Letter B)) where
     -- the configuration after
-    abbrev pub told-moment : Configuration B
-    told-moment = configuration_of (with_seat w.room s x) logs' holds' c'
+    abbrev pub written : Configuration B
+    written = configuration_of (with_seat w.room s x) logs' holds' c'
 
-    pub at_seat : (P : Box B → Box B → Type 0) → P (box_of w s) (box_of told-moment s) → P ((view w).box s) ((view told-moment).box s)
-    at_seat P p = cut_two w.room.count s P (box_of w s) (box_of told-moment s) no_box inside p
+    pub at_seat : (P : Box B → Box B → Type 0) → P (box_of w s) (box_of written s) → P ((view w).box s) ((view written).box s)
+    at_seat P p = cut_two w.room.count s P (box_of w s) (box_of written s) no_box inside p
 
     pub elsewhere : ((t : ℕ) → t < w.room.count → ¬ (t ≡ s) → log_of (with_seat w.room s x) logs' t ≡ log_of w.room w.logs t)
         → ((t : ℕ) → t < w.room.count → ¬ (t ≡ s) → hold_of (with_seat w.room s x) holds' t ≡ hold_of w.room w.holds t)
-        → Elsewhere s (view w) (view told-moment)
+        → Elsewhere s (view w) (view written)
     elsewhere same_log same-hold t ne =
-        cut_same w.room.count t (box_of w t) (box_of told-moment t) no_box
-        (λ lt. same_box w told-moment t (other_seat w.room fit s inside x t ne) (same_log t lt ne) (same-hold t lt ne))
+        cut_same w.room.count t (box_of w t) (box_of written t) no_box
+        (λ lt. same_box w written t (other_seat w.room fit s inside x t ne) (same_log t lt ne) (same-hold t lt ne))
 
 -- a seat's docket moves
 module _ {B : Type 0} (w : Configuration B) (fit : RoomInvariant w.room) (s : ℕ) (inside : s < w.room.count) (event : DocketEvent) (c' : Meaning (Letter B)) where
@@ -80,7 +80,7 @@ module _ {B : Type 0} (w : Configuration B) (fit : RoomInvariant w.room) (s : �
   pub docket_moves : (was is : DocketState) → (seat_at w.room s).docket ≡ was → docket_after (seat_at w.room s).docket event ≡ is
       → MovesDocket was is s (view w) (view docket_moment)
   docket_moves was is before after =
-      let told = told_seat w.room fit s inside x in
+      let told = written_seat w.room fit s inside x in
       record {
         before = at_s (λ b b'. b.docket ≡ was) before;
         clock = at_s (λ b b'. b'.clock ≡ b.clock) (ap clock_at told);

@@ -13,7 +13,8 @@ use Rattle.lives.specs.declared.operation.Operation.{Operation}
 use Rattle.lives.specs.declared.operation.Operation.TheVariants as operations
 use Rattle.lives.specs.Traces.{Answer, Trace, answer_when_done, answer_with_docket, answer_with_show, answer_with_take, step_with_answer}
 
--- a room at one moment (a configuration): what it holds, the two letter tables that are brought to it, what its carrier means
+-- a room at one moment (a configuration): what it holds, the two letter tables that are brought to it, and what its
+-- carrier means
 pub record Configuration (B : Type 0) : Type 0 where
   pub room : RoomState
   pub logs : List (Letter B)
@@ -116,8 +117,8 @@ module _ {B : Type 0} where
   -- one before it left it.
   pub data Execution (from : Configuration B) : Trace B → Configuration B → Type 0 where
     nowhere : Execution from [] from
-    further : {trace : Trace B} {w w' : Configuration B} {operation : Operation B DocketId} {answer : Answer} → Execution from trace w → RoomStep operation w answer w'
-        → Execution from (step_with_answer operation answer ∷ trace) w'
+    further : {trace : Trace B} {w w' : Configuration B} {operation : Operation B DocketId} {answer : Answer}
+        → Execution from trace w → RoomStep operation w answer w' → Execution from (step_with_answer operation answer ∷ trace) w'
 
   -- The configuration is reachable: a room was opened and then made the steps of the trace with these answers.
   pub record Reachable (trace : Trace B) (w : Configuration B) : Type 0 where

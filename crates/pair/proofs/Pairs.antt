@@ -1,32 +1,22 @@
 -- What the steps of a pair do, by those of its two carriers.
 use Rattle.std.proofs.Common.{inl, inr, ◌≡◌, ℕ, ◌+◌, ◌-◌, ◌^◌, ◌<◌, ◌≤◌, min, true, ◌++◌, map, length, get_or, Ok, Err, OnOk, Result, sym, refl, ap, ◌∙◌, subst, ⊎_elim, arith, length-append}
 use Rattle.std.specs.List.{remove}
-use Rattle.std.specs.Result.{OnErr}
 use Rattle.std.proofs.lemmas.List.{get_or_append_left, get_or-append_right, map-append, length-map}
 use Rattle.std.proofs.lemmas.Bool.{eq-eqb, and_from, cases_lt}
 use Rattle.letters.specs.declared.refusal.Refusal.{Refusal}
 use Rattle.letters.specs.Refusals.{Reason, as_answer, plain}
 use Rattle.carriers.specs.Meaning.{Meaning, PutOn, Drawn, waits_at, put_answer, PutLeaves, draw_answer, DrawLeaves}
-use Rattle.carriers.proofs.Decisions.{put_ok, draw_ok, draw_no_seat, draw_no_place, put_accepted, accepted_put, draw_accepted, accepted_draw, draw_refused, refused_draw}
+use Rattle.carriers.proofs.Decisions.{not_both, put_ok, draw_ok, draw_no_seat, draw_no_place, put_accepted, accepted_put, draw_accepted, accepted_draw, draw_refused, refused_draw}
 use Rattle.carriers.proofs.Gained.{gains_append}
 use Rattle.carriers.proofs.Removed.{removed_left, removed_right}
 use Rattle.pair.specs.Pairs.{DrawsOne, joined, both}
 use Rattle.pair.specs.PairLemmas.{both_level}
 
--- no answer both accepts and refuses
-no_yes : {w : Reason} {X : Type 0} → ◌≡◌ {A = Result (Unit {0}) Reason} (Err w) (Ok tt) → X
-no_yes e = let z : ◌≡◌ {A = ℕ} 0 1 = cc in absurd (omega arith)
-
 -- what holds of the first's put, which was accepted, and of the second's holds of both where the second's was
 pub once_both : (r₁ r₂ : Result (Unit {0}) Refusal) (P Q : Type 0) → as_answer (λ u. u) r₁ ≡ Ok tt → OnOk r₁ P → OnOk r₂ Q → OnOk r₂ (P × Q)
 once_both (Ok u) (Ok v) P Q took p q = (p, q)
 once_both (Ok u) (Err why) P Q took p q = tt
-once_both (Err why) r₂ P Q took p q = no_yes took
-
--- nothing is to show of a refusal where the answer accepts
-pub on_no : (r : Result (Unit {0}) Refusal) (P : Type 0) → as_answer (λ u. u) r ≡ Ok tt → OnErr r P
-on_no (Ok u) P took = tt
-on_no (Err why) P took = no_yes took
+once_both (Err why) r₂ P Q took p q = not_both took
 
 module _ {L : Type 0} where
   -- a put that both take
@@ -76,7 +66,7 @@ module _ {L : Type 0} where
     drawn_place : (m : Meaning L) (seat place : ℕ) → draw_answer m seat place ≡ Ok tt → place < waits_at m seat
     drawn_place m seat place yes' = ⊎_elim
         (λ near. near)
-        (λ far. ⊎_elim (λ here. no_yes (sym (draw_no_place m seat place here far) ∙ yes')) (λ out. no_yes (sym (draw_no_seat m seat place out) ∙ yes')) (cases_lt seat m.seats))
+        (λ far. ⊎_elim (λ here. not_both (sym (draw_no_place m seat place here far) ∙ yes')) (λ out. not_both (sym (draw_no_seat m seat place out) ∙ yes')) (cases_lt seat m.seats))
         (cases_lt place (waits_at m seat))
 
     -- which of the two was drawn from

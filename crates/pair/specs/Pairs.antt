@@ -23,7 +23,7 @@ joined m n = record {
 abbrev pub both : {L : Type 0} → Meaning L → Meaning L → Meaning L
 both m n = cond (m.seats == n.seats) (joined m n) m
 
--- what a refusal of the pair leaves of one of the two: it is as it was, or as its own refusal leaves it, of which `rests` tells
+-- what a refusal of the pair leaves of one of the two: it is as it was, or as its own refusal leaves it, by `rests`
 abbrev pub Rested : {C : Type 0} → (C → C → Type 0) → C → C → Type 0
 Rested rests c after = (after ≡ c) ⊎ rests c after
 
@@ -55,6 +55,6 @@ module _ {C B E : Type 0} (carrier : Ghosts C B) where
 
 module _ {C D B E : Type 0} (first : Ghosts C B) (second : Ghosts D B) where
   -- what a draw leaves of what each of the two means
-  abbrev pub OneDraw : Result (Unit {0}) E → C → D → ℕ → ℕ → C → D → Type 0
-  OneDraw result c d seat place c' d' =
+  abbrev pub CarriersDraw : Result (Unit {0}) E → C → D → ℕ → ℕ → C → D → Type 0
+  CarriersDraw result c d seat place c' d' =
       DrawsOne result (first.meaning c) (second.meaning d) seat place (first.meaning c') (second.meaning d')

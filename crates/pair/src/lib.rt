@@ -6,7 +6,7 @@ ghost use Rattle.std.specs.Result.{OnErr};
 ghost use Rattle.letters.specs.Refusals.{as_answer};
 ghost use Rattle.carriers.specs.Meaning.{draw_answer, put_answer};
 ghost use Rattle.pair.specs.PairLemmas.{lawful_both, still_both};
-ghost use Rattle.pair.specs.Pairs.{CarrierDraw, CarrierPut, OneDraw, OneRests, Rested, both, pair_answer};
+ghost use Rattle.pair.specs.Pairs.{CarrierDraw, CarrierPut, CarriersDraw, OneRests, Rested, both, pair_answer};
 
 use carriers::carrier::Carrier;
 use letters::letter::Letter;
@@ -98,7 +98,7 @@ impl<C: Carrier, D: Carrier<Body = C::Body>> Carrier for Pair<C, D> {
     fn draw(&mut self, seat: u8, place: u32, parts: &mut Parts<C::Body>) -> Result<(), Refusal>
         ensures answer { as_answer (λ u. u) result ≡ draw_answer (⟦<Self as Carrier>⟧.meaning self.old) seat place }
         ensures leaves { CarrierDraw ⟦<Self as Carrier>⟧ result self.old seat place self.new parts.old parts.new }
-        ensures one { OneDraw C.Carrier D.Carrier result self.old.first self.old.second seat place self.new.first self.new.second }
+        ensures one { CarriersDraw C.Carrier D.Carrier result self.old.first self.old.second seat place self.new.first self.new.second }
         ensures asked { OnErr result (OneRests C.Carrier.rests D.Carrier.rests self.old.first self.new.first self.old.second self.new.second) }
         ensures rests { OnErr result (⟦<Self as Carrier>⟧.rests self.old self.new) }
     {

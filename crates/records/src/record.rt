@@ -13,15 +13,18 @@ use letters::body::{BODY_SPACE, Body};
 use letters::letter::Letter;
 use letters::parts::Parts;
 
-// What stands where behind the stamp: the poster, the body's kind and length, a zero, and the space for the body.
+// What stands where in a record, behind the stamp: first the poster, one byte.
 pub const POSTER_PLACE: usize = STAMP_SIZE;
 
+// The place of the byte of the body's kind.
 pub const KIND_PLACE: usize = POSTER_PLACE + 1;
 
+// The place of the body's length, one byte.
 pub const LENGTH_PLACE: usize = KIND_PLACE + 1;
 
 const ZERO_PLACE: usize = LENGTH_PLACE + 1;
 
+// Where the body's space begins.
 pub const BODY_PLACE: usize = ZERO_PLACE + 1;
 
 // Where the body's space ends.

@@ -26,7 +26,7 @@ operation_of (operations.Show s) = operations.Show s
 
 -- what is answered: the case, with its values or its number
 abbrev pub response_as_answer : Result (Response Docket) Declined → traces.Answer
-response_as_answer (Ok response) = traces.answer_of_response docket_id response
+response_as_answer (Ok response) = traces.answer_of_response id_of response
 response_as_answer (Err back) = traces.refused (reason_of back.refusal)
 
 -- the docket that a step brings
@@ -63,4 +63,5 @@ module _ {C B : Type 0} (carrier : Ghosts C B) where
   abbrev pub AskedStaysReachable : Operation B Docket → Room → List (Letter B) → List (Letter B) → C → Result (Response Docket) Declined
       → Room → List (Letter B) → List (Letter B) → C → Type 0
   AskedStaysReachable asked r logs holds c result r' logs' holds' c' =
-      StaysReachable (operation_of asked) (room_configuration carrier r logs holds c) (response_as_answer result) (room_configuration carrier r' logs' holds' c')
+      StaysReachable (operation_of asked) (room_configuration carrier r logs holds c) (response_as_answer result)
+      (room_configuration carrier r' logs' holds' c')

@@ -32,7 +32,8 @@ CarrierStep puts rests (operations.Post s body) w c c' = c' ≡ c
 CarrierStep puts rests (operations.Send d) w c c' = PutsOnce puts rests (letter_at w d) (send_at w d) c c'
 CarrierStep puts rests (operations.Park d) w c c' = c' ≡ c
 CarrierStep puts rests (operations.Collect s) w c c' = c' ≡ c
-CarrierStep puts rests (operations.Take s place) w c c' = DrawRests rests (carrier_check w.room (length w.logs) (length w.holds) w.carrier.seats) (draw_answer w.carrier s place) c c'
+CarrierStep puts rests (operations.Take s place) w c c' =
+    DrawRests rests (carrier_check w.room (length w.logs) (length w.holds) w.carrier.seats) (draw_answer w.carrier s place) c c'
 CarrierStep puts rests (operations.Show s) w c c' = c' ≡ c
 
 -- the first letter of the hold that is ready at the seat, with its place; or none is

@@ -44,7 +44,8 @@ enrol_answer d name = answer_if (enrol_check d name) d.count
 
 -- and gives it the name
 abbrev pub draft_with_name : DraftState → Result ℕ Reason → ℕ → DraftState
-draft_with_name d answer name = after_answer answer (λ seat. record { number = d.number; quota = d.quota; names = slice_set d.names seat name; count = seat + 1 }) d
+draft_with_name d answer name =
+    after_answer answer (λ seat. record { number = d.number; quota = d.quota; names = slice_set d.names seat name; count = seat + 1 }) d
 
 -- a room with every clock at zero, and no letter and no docket anywhere
 abbrev pub opening_state : DraftState → RoomState

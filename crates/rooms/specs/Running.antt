@@ -9,9 +9,9 @@ use Rattle.sheets.specs.declared.sheet.Sheet as sheets
 use Rattle.seats.specs.declared.docket_id.DocketId.{DocketId}
 use Rattle.lives.specs.declared.operation.Operation.{Operation}
 use Rattle.lives.specs.declared.response.Response.{Response}
-use Rattle.lives.specs.Guarantees.{GuaranteedThroughout}
+use Rattle.lives.specs.Guarantees.{GuaranteedThroughout, Guarantees}
 use Rattle.lives.specs.Traces.{Trace, answer_of, trace_after}
-use Rattle.lives.specs.Reachability.{Configuration, Execution, configuration_of}
+use Rattle.lives.specs.Reachability.{Configuration, Execution, Reachable, configuration_of}
 use Rattle.rooms.specs.declared.draft.Draft.{Draft}
 use Rattle.rooms.specs.declared.room.Room.{Room}
 use Rattle.rooms.specs.Drafts.{DraftState, open_check, opening_state, state_of_draft}
@@ -54,11 +54,15 @@ module _ {C B : Type 0} (carrier : Ghosts C B) where
       CarrierSteps carrier.meaning carrier.puts carrier.rests (room_configuration carrier r logs holds c) c (steps_trace steps responses)
       (room_configuration carrier r' logs' holds' c') c'
 
+  -- the configuration after these steps is reachable by them
+  abbrev pub StepsReach : List (Operation B DocketId) → StepResponses → Room → List (Letter B) → List (Letter B) → C → Type 0
+  StepsReach steps responses r logs holds c = Reachable (steps_trace steps responses) (room_configuration carrier r logs holds c)
+
   -- of the carrier itself: the letter of each accepted send was put on it once, and nothing else was
   abbrev pub StepsServe : C → List (Operation B DocketId) → StepResponses → C → Type 0
   StepsServe c steps responses c' = Serves carrier.meaning carrier.puts carrier.rests c (steps_trace steps responses) c'
 
-  -- the steps of a whole run led from the opening of the draft's room to its last moment
+  -- the steps of a whole run led from the opening of the draft's room to its last configuration
   abbrev pub RunPath : Draft → List (Letter B) → List (Letter B) → C → List (Operation B DocketId) → StepResponses
       → Room → List (Letter B) → List (Letter B) → C → Type 0
   RunPath d logs holds c steps responses r logs' holds' c' =
@@ -71,8 +75,15 @@ module _ {C B : Type 0} (carrier : Ghosts C B) where
       CarrierSteps carrier.meaning carrier.puts carrier.rests (opening_configuration d logs holds c) c (steps_trace steps responses)
       (room_configuration carrier r logs' holds' c') c'
 
--- what the room of a run keeps for a kind of sheet, after each of its steps
+-- what is guaranteed for a kind of sheet after these steps
+abbrev pub StepsGuarantee : {K C B : Type 0} → sheets.Ghosts K B → Ghosts C B → List (Operation B DocketId) → StepResponses
+    → Room → List (Letter B) → List (Letter B) → C → Type 0
+StepsGuarantee sheet carrier steps responses r logs holds c =
+    Guarantees sheet.kind (steps_trace steps responses) (room_configuration carrier r logs holds c)
+
+-- and after each step of a run
 abbrev pub RunGuarantees : {K C B : Type 0} → sheets.Ghosts K B → Ghosts C B → Draft → List (Letter B) → List (Letter B) → C
     → List (Operation B DocketId) → StepResponses → Room → List (Letter B) → List (Letter B) → C → Type 0
 RunGuarantees sheet carrier d logs holds c steps responses r logs' holds' c' =
-    GuaranteedThroughout sheet.kind (opening_configuration carrier d logs holds c) (steps_trace steps responses) (room_configuration carrier r logs' holds' c')
+    GuaranteedThroughout sheet.kind (opening_configuration carrier d logs holds c) (steps_trace steps responses)
+    (room_configuration carrier r logs' holds' c')

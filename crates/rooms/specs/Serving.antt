@@ -25,5 +25,6 @@ module _ {B C : Type 0} (meaning : C → Meaning (Letter B)) (puts : C → Lette
   -- does, and nothing else.
   pub data CarrierSteps (first : Configuration B) (from : C) : Trace B → Configuration B → C → Type 0 where
     at_first : CarrierSteps first from [] first from
-    step_on : {trace : Trace B} {w w' : Configuration B} {c c' : C} {operation : Operation B DocketId} {answer : Answer} → CarrierSteps first from trace w c
-        → w.carrier ≡ meaning c → RoomStep operation w answer w' → w'.carrier ≡ meaning c' → CarrierStep puts rests operation w c c' → CarrierSteps first from (step_with_answer operation answer ∷ trace) w' c'
+    step_on : {trace : Trace B} {w w' : Configuration B} {c c' : C} {operation : Operation B DocketId} {answer : Answer}
+        → CarrierSteps first from trace w c → w.carrier ≡ meaning c → RoomStep operation w answer w' → w'.carrier ≡ meaning c'
+        → CarrierStep puts rests operation w c c' → CarrierSteps first from (step_with_answer operation answer ∷ trace) w' c'

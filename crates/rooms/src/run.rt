@@ -1,12 +1,10 @@
 // A room's whole life: it opens and makes one step after the other.
 ghost use Rattle.std.specs.Prelude.{◌≡◌, ◌≤◌, length, drop, Ok};
 ghost use Rattle.letters.specs.Refusals.{as_answer};
-ghost use Rattle.lives.specs.Reachability.{Reachable};
-ghost use Rattle.lives.specs.Guarantees.{AlwaysGuaranteed, Guarantees};
+ghost use Rattle.lives.specs.Guarantees.{AlwaysGuaranteed};
 ghost use Rattle.rooms.specs.Handing.{AreOut, dockets_left, dockets_out};
-ghost use Rattle.rooms.specs.Running.{RunCarries, RunGuarantees, RunPath, StepsCarry, StepsPath, StepsServe, run_answer, steps_trace};
+ghost use Rattle.rooms.specs.Running.{RunCarries, RunGuarantees, RunPath, StepsCarry, StepsGuarantee, StepsPath, StepsReach, StepsServe, run_answer};
 ghost use Rattle.rooms.specs.States.{state};
-ghost use Rattle.rooms.specs.WithCarrier.{room_configuration};
 
 use crate::draft::Draft;
 use crate::ended::Ended;
@@ -21,7 +19,8 @@ use lives::response::Response;
 use seats::docket_id::DocketId;
 use sheets::sheet::Sheet;
 
-// Whether the draft can be run. Refused with 5 where not every response has a place, and else as its opening is, with 4, 5, 6, 7.
+// Whether the draft can be run. Refused with 5 where not every response has a place, and else as its opening is, with
+// 4, 5, 6, 7.
 pub fn check<B: Body, C: Carrier<Body = B>>(
     draft: &Draft,
     logs: &[Letter<B>],
@@ -51,8 +50,8 @@ pub fn run<B: Body, C: Carrier<Body = B>, K: Sheet<Body = B>>(
 ) -> Ended
     requires { run_answer C.Carrier draft logs.old holds.old carrier.old steps.now responses.old ≡ Ok tt }
     ensures path { RunPath C.Carrier draft logs.old holds.old carrier.old steps.now responses.new result.room logs.new holds.new carrier.new }
-    ensures reachable { Reachable (steps_trace steps.now responses.new) (room_configuration C.Carrier result.room logs.new holds.new carrier.new) }
-    ensures guarantees { Guarantees K.Sheet.kind (steps_trace steps.now responses.new) (room_configuration C.Carrier result.room logs.new holds.new carrier.new) }
+    ensures reachable { StepsReach C.Carrier steps.now responses.new result.room logs.new holds.new carrier.new }
+    ensures guarantees { StepsGuarantee K.Sheet C.Carrier steps.now responses.new result.room logs.new holds.new carrier.new }
     ensures throughout { RunGuarantees K.Sheet C.Carrier draft logs.old holds.old carrier.old steps.now responses.new result.room logs.new holds.new carrier.new }
     ensures always { AlwaysGuaranteed K.Sheet.kind }
     ensures carrier { RunCarries C.Carrier draft logs.old holds.old carrier.old steps.now responses.new result.room logs.new holds.new carrier.new }

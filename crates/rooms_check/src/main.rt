@@ -18,7 +18,7 @@ use rooms::run;
 use seats::docket_id::DocketId;
 use sheet_kinds::job_list::JobList;
 use spool::Spool;
-use spool::tape::ROW_SIZE;
+use spool::row_buffer::ROW_SIZE;
 use std::alloc::{AllocError, Global};
 use std::io::Read;
 use std::{env, io};
@@ -66,7 +66,7 @@ impl From<io::Error> for Stop {
 }
 
 // Prints the refusal, where there was one.
-fn tell(rt: &HostRuntime, ended: Result<(), Stop>) -> io::Result<()> {
+fn print_refusal(rt: &HostRuntime, ended: Result<(), Stop>) -> io::Result<()> {
     match ended {
         Ok(()) => Ok(()),
         Err(Stop::Refused(why)) => println!(rt; "refused {why}"),
@@ -76,7 +76,7 @@ fn tell(rt: &HostRuntime, ended: Result<(), Stop>) -> io::Result<()> {
 
 // The step that twelve bytes write: the call, a seat, a 16-bit number, a 32-bit one, a poster, and zeros.
 // The calls are 1 post an add, 2 post a strike, 3 send, 4 park, 5 collect, 6 take, and show by any other.
-fn read_move(bytes: &[u8]) -> Result<Operation<Job, DocketId>, Refusal> {
+fn read_operation(bytes: &[u8]) -> Result<Operation<Job, DocketId>, Refusal> {
     let &[call, seat, low, high, a, b, c, d, poster, ..] = bytes else {
         return Ok(Operation::Show(0));
     };
@@ -98,7 +98,7 @@ fn read_move(bytes: &[u8]) -> Result<Operation<Job, DocketId>, Refusal> {
     }
 }
 
-fn print_reply(rt: &HostRuntime, response: Response<DocketId>) -> io::Result<()> {
+fn print_response(rt: &HostRuntime, response: Response<DocketId>) -> io::Result<()> {
     match response {
         Response::Docket(DocketId { room, seat, number }) => println!(rt;
             "docket {room} {seat} {number}"
@@ -110,10 +110,13 @@ fn print_reply(rt: &HostRuntime, response: Response<DocketId>) -> io::Result<()>
 }
 
 // The steps that the bytes write, without those that cannot be read.
-fn read_moves(alloc: Global, steps: &[u8]) -> Result<Vec<Operation<Job, DocketId>>, AllocError> {
+fn read_operations(
+    alloc: Global,
+    steps: &[u8],
+) -> Result<Vec<Operation<Job, DocketId>>, AllocError> {
     let mut asked = Vec::new(alloc);
     for bytes in steps.chunks_exact(12) {
-        if let Ok(step) = read_move(bytes) {
+        if let Ok(step) = read_operation(bytes) {
             asked.push(step)?;
         }
     }
@@ -121,7 +124,7 @@ fn read_moves(alloc: Global, steps: &[u8]) -> Result<Vec<Operation<Job, DocketId
 }
 
 // Places for so many responses.
-fn no_replies(
+fn no_responses(
     alloc: Global,
     count: usize,
 ) -> Result<Vec<Result<Response<DocketId>, Refusal>>, AllocError> {
@@ -133,19 +136,19 @@ fn no_replies(
 }
 
 // Prints what each step replied, and the refusals of those that cannot be read between them.
-fn print_replies(
+fn print_responses(
     rt: &HostRuntime,
     steps: &[u8],
     responses: &[Result<Response<DocketId>, Refusal>],
 ) -> io::Result<()> {
     let mut replied = responses.iter();
     for bytes in steps.chunks_exact(12) {
-        let response = match read_move(bytes) {
+        let response = match read_operation(bytes) {
             Ok(_) => *replied.next().unwrap_or(&Err(Refusal::TooShort)),
             Err(why) => Err(why),
         };
         match response {
-            Ok(response) => print_reply(rt, response)?,
+            Ok(response) => print_response(rt, response)?,
             Err(why) => println!(rt; "refused {why}")?,
         }
     }
@@ -185,7 +188,7 @@ impl Session<'_> {
     fn print_seats(&self, rt: &HostRuntime, seats: u8) -> io::Result<()> {
         for seat in 0..seats {
             self.print_log(rt, seat)?;
-            tell(rt, self.print_jobs(rt, seat))?;
+            print_refusal(rt, self.print_jobs(rt, seat))?;
         }
         Ok(())
     }
@@ -204,8 +207,8 @@ fn live_on_pair<C: Carrier<Body = Job> + Drop, D: Carrier<Body = Job> + Drop>(
     let mut pair = Pair::new(first, second);
     let mut logs = [blank; PLACES];
     let mut holds = [blank; PLACES];
-    let asked = read_moves(rt.alloc(), steps)?;
-    let mut responses = no_replies(rt.alloc(), asked.len())?;
+    let asked = read_operations(rt.alloc(), steps)?;
+    let mut responses = no_responses(rt.alloc(), asked.len())?;
     run::check(
         &draft,
         &logs,
@@ -223,7 +226,7 @@ fn live_on_pair<C: Carrier<Body = Job> + Drop, D: Carrier<Body = Job> + Drop>(
         responses.as_mut_slice(),
     );
     let room = ended.park_all();
-    print_replies(rt, steps, responses.as_slice())?;
+    print_responses(rt, steps, responses.as_slice())?;
     let session = Session {
         room,
         logs: &mut logs,
@@ -284,5 +287,5 @@ fn main(rt: HostRuntime) -> io::Result<()> {
         quota: u16::from_le_bytes([low, high]),
         size: size as u32,
     };
-    tell(&rt, live(&rt, setting, steps))
+    print_refusal(&rt, live(&rt, setting, steps))
 }

@@ -7,7 +7,7 @@ use Rattle.seats.specs.Invariants.{RoomInvariant, SeatInvariant}
 use Rattle.seats.specs.Rooms.{RoomState, seat_at, start, foot, hold_of}
 use Rattle.seats.specs.Seats.{clock_at}
 use Rattle.seats.specs.Outcomes.{held, carrier_check, first_ready, seat_check, seat_with_show}
-use Rattle.seats.proofs.Clocks.{seat_kept, clocked_kept, foot_below, row_end}
+use Rattle.seats.proofs.Clocks.{seat_kept, clocked_kept, row_end}
 use Rattle.seats.proofs.Searches.{found}
 
 -- of a seat
@@ -36,7 +36,6 @@ pub record Showable (st : RoomState) (logs holds s k : ℕ) {B : Type 0} (m : Le
   pub poster : m.poster < st.count
   pub few : number_of m ≤ st.quota
   pub next : number_of m ≡ clock_at (seat_at st s) m.poster + 1
-  pub log_place : foot st s < logs
   pub hold_end : start st s + (seat_at st s).held ≤ holds
 
 -- an accepted show
@@ -55,7 +54,6 @@ showable st ok logs s k holds m can e =
       poster = poster;
       few = few;
       next = next;
-      log_place = omega (arith, at.logs_long, foot_below st ok s m.poster at.inside poster (omega arith));
       hold_end = omega (arith, at.holds_long, row_end st ok s seat.held at.inside (ok.placed s));
     }
 

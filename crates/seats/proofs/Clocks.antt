@@ -1,12 +1,11 @@
 -- What a seat keeps while its clock goes up, and that its log has a place for one letter more.
 use Rattle.std.proofs.Common.{◌≡◌, ℕ, zero, suc, ◌+◌, ◌*◌, ◌<◌, ◌≤◌, ◌≢◌, List, [], ◌∷◌, length, get_or, sum, mul-le-mul_right, suc-mul, arith}
-use Rattle.std.proofs.lemmas.Nat.{mul-add-lt}
 use Rattle.std.proofs.lemmas.List.{get_or-set_same, get_or-set_other, length-set}
 use Rattle.std.proofs.lemmas.List.Sums.{sum_by-cons, sum_by-set}
 use Rattle.seats.specs.declared.seat.Seat.{Seat}
 use Rattle.seats.specs.Invariants.{RoomInvariant, SeatInvariant}
 use Rattle.seats.specs.Seats.{clock_at, log_length, with_clock_entry}
-use Rattle.seats.specs.Rooms.{RoomState, seat_at, start, foot}
+use Rattle.seats.specs.Rooms.{RoomState, seat_at, start}
 use Rattle.seats.proofs.Tables.{set_each}
 
 -- n entries of at most q each, and zeros after them
@@ -50,12 +49,6 @@ module _ (n q : ℕ) (few : n ≤ 16) (x : Seat) (kept : SeatInvariant n q x) (p
       let most = kept_fits n q (with_clock_entry x p (get_or xs p 0 + 1)) next in
       let more = sum_by-set (λ e. e) xs p (get_or xs p 0 + 1) 0 (omega (arith, kept.whole)) in
       omega arith
-
--- where an entry of its clock is below the quota, a seat's log has a place at its foot
-pub foot_below : (st : RoomState) (ok : RoomInvariant st) (s p : ℕ) → s < st.count → p < st.count → clock_at (seat_at st s) p < st.quota → foot st s < start st st.count
-foot_below st ok s p inside poster left =
-    let short = log_short st.count st.quota ok.few (seat_at st s) (seat_kept st ok s (omega arith)) p poster left in
-    omega (arith, mul-add-lt s (st.count * st.quota) (log_length (seat_at st s)) st.count inside short)
 
 -- a seat's places lie within the table
 pub row_end : (st : RoomState) (ok : RoomInvariant st) (s x : ℕ) → s < st.count → x ≤ st.count * st.quota → start st s + x ≤ start st st.count

@@ -14,8 +14,8 @@ use Rattle.seats.proofs.Tables.{part, part_push, part_set_out, part_closed, part
 
 module _ (st : RoomState) (ok : RoomInvariant st) (s : ℕ) (inside : s < st.count) (x : Seat) where
   -- the seat that was written, and the others
-  pub told_seat : seat_at (with_seat st s x) s ≡ x
-  told_seat = get_or-set_same st.seats s x blank (omega (arith, ok.few, ok.table))
+  pub written_seat : seat_at (with_seat st s x) s ≡ x
+  written_seat = get_or-set_same st.seats s x blank (omega (arith, ok.few, ok.table))
 
   pub other_seat : (t : ℕ) → t ≢ s → seat_at (with_seat st s x) t ≡ seat_at st t
   other_seat t ne = get_or-set_other st.seats s t x blank ne
@@ -25,7 +25,7 @@ module _ {B : Type 0} (st : RoomState) (ok : RoomInvariant st) (logs : List (Let
     (one_more : log_length x ≡ log_length (seat_at st s) + 1) (short : log_length (seat_at st s) < st.count * st.quota) (long : start st st.count ≤ length logs) where
   pub log_gains : log_of (with_seat st s x) (set logs (foot st s) m) s ≡ log_of st logs s ++ m ∷ []
   log_gains =
-      ap (λ y. part (start st s) (log_length y) (set logs (foot st s) m)) (told_seat st ok s inside x)
+      ap (λ y. part (start st s) (log_length y) (set logs (foot st s) m)) (written_seat st ok s inside x)
       ∙ ap (λ n. part (start st s) n (set logs (foot st s) m)) one_more
       ∙ part_push logs (start st s) (log_length (seat_at st s)) m (omega (arith, mul-add-lt s (st.count * st.quota) (log_length (seat_at st s)) st.count inside short))
 
@@ -44,7 +44,7 @@ module _ {B : Type 0} (st : RoomState) (ok : RoomInvariant st) (holds : List (Le
   pub hold_loses : hold_of (with_seat st s x) (table_closed_up holds (start st s + k) ((seat_at st s).held - k - 1)) s ≡ remove (hold_of st holds s) k
   hold_loses =
       let table = table_closed_up holds (start st s + k) ((seat_at st s).held - k - 1) in
-      ap (λ y. part (start st s) y.held table) (told_seat st ok s inside x)
+      ap (λ y. part (start st s) y.held table) (written_seat st ok s inside x)
       ∙ ap (λ n. part (start st s) n table) one_less
       ∙ part_closed holds (start st s) k (seat_at st s).held there ends
 
@@ -68,7 +68,7 @@ module _ {B : Type 0} (st : RoomState) (ok : RoomInvariant st) (holds : List (Le
   pub hold_gains : hold_of (with_seat st s x) (set holds (start st s + (seat_at st s).held) m) s ≡ hold_of st holds s ++ m ∷ []
   hold_gains =
       let table = set holds (start st s + (seat_at st s).held) m in
-      ap (λ y. part (start st s) y.held table) (told_seat st ok s inside x)
+      ap (λ y. part (start st s) y.held table) (written_seat st ok s inside x)
       ∙ ap (λ n. part (start st s) n table) one_more
       ∙ part_push holds (start st s) (seat_at st s).held m (omega (arith, mul-add-lt s (st.count * st.quota) (seat_at st s).held st.count inside short))
 

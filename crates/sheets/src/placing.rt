@@ -2,11 +2,11 @@
 ghost use Rattle.std.specs.Prelude.{◌≡◌, ◌+◌, ◌<◌, ◌≤◌, Bool, cond, length, nat_lt};
 ghost use Rattle.std.specs.Cmp.{IsStrictWeakOrder};
 ghost use Rattle.arrayvec.specs.ArrayVec.{array_vec_len};
-ghost use Rattle.sheets.specs.Placing.{place_among, placed, placed_within};
+ghost use Rattle.sheets.specs.Placing.{place_among, placed_within};
 
 use arrayvec::ArrayVec;
 
-// A type of rows that have an order. Of two rows that differ, neither need stand after the other.
+// A type of rows with an order, which is a strict weak order: of two rows that differ, neither need stand after the other.
 pub trait OrderedRow: Copy {
     ghost after: { Self → Self → Bool };
 

@@ -37,7 +37,7 @@ impl Order {
 }
 
 // The text of a block.
-fn text_said(block: &[u8; RECORD_SIZE]) -> Result<Text, Refusal> {
+fn text_of(block: &[u8; RECORD_SIZE]) -> Result<Text, Refusal> {
     let len = block[LENGTH_PLACE] as usize;
     if len > BODY_SPACE {
         return Err(Refusal::BadRecord);
@@ -46,7 +46,7 @@ fn text_said(block: &[u8; RECORD_SIZE]) -> Result<Text, Refusal> {
 }
 
 // The job of a block.
-fn job_said(block: &[u8; RECORD_SIZE]) -> Result<Job, Refusal> {
+fn job_of(block: &[u8; RECORD_SIZE]) -> Result<Job, Refusal> {
     let body = &block[BODY_PLACE..];
     if body[0] == 1 {
         return Ok(Job::Add(u32::from_le_bytes([body[1], body[2], body[3], body[4]])));
@@ -144,8 +144,8 @@ fn main(rt: HostRuntime) -> io::Result<()> {
     let (blocks, _) = input.as_slice().as_chunks::<RECORD_SIZE>();
     for block in blocks {
         match (Order::of(block), block[KIND_PLACE]) {
-            (None, 1) => keep(&rt, &mut texts, block, text_said(block))?,
-            (None, _) => keep(&rt, &mut jobs, block, job_said(block))?,
+            (None, 1) => keep(&rt, &mut texts, block, text_of(block))?,
+            (None, _) => keep(&rt, &mut jobs, block, job_of(block))?,
             (Some(order), 1) => {
                 print_answer(&rt, work(&mut timeline, texts.as_slice(), order))?;
                 print_timeline(&rt, &timeline)?;

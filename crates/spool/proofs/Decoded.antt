@@ -16,21 +16,21 @@ use Rattle.records.specs.declared.record.TheConstants.{RECORD_SIZE}
 use Rattle.records.specs.Records.{record_of, wrong_byte, wrong_front}
 use Rattle.records.proofs.Finding.{answered_wrong}
 use Rattle.records.proofs.RoundTrip.{front_whole, record_right, written_back}
-use Rattle.spool.specs.Decoding.{letter_of, letter_or, letter_parts, letter_read}
+use Rattle.spool.specs.Decoding.{letter_of, letter_or, are_letter_parts, letter_read}
 
 module _ {B : Type 0} (blank : B) where
   -- a letter's parts are one's
-  can_be : (m : Letter B) → letter_parts (parts_of m) ≡ true
+  can_be : (m : Letter B) → are_letter_parts (parts_of m) ≡ true
   can_be m = and_from _ _ (eq-eqb _ _ m.sized) (letter_is m)
 
-  or_is : (m : Letter B) (p : Parts B) (can : Bool) (e : letter_parts p ≡ can) → p ≡ parts_of m → letter_or blank p can e ≡ m
+  or_is : (m : Letter B) (p : Parts B) (can : Bool) (e : are_letter_parts p ≡ can) → p ≡ parts_of m → letter_or blank p can e ≡ m
   unfolding letter_or
   or_is m p true e same = equal_letters _ m (ap (λ q. q.stamp) same) (ap (λ q. q.poster) same) (ap (λ q. q.body) same)
-  or_is m p false e same = absurd (both_ways (letter_parts p) e (ap letter_parts same ∙ can_be m))
+  or_is m p false e same = absurd (both_ways (are_letter_parts p) e (ap are_letter_parts same ∙ can_be m))
 
   read_is : (m : Letter B) (p : Parts B) (f : Option ℕ) → f ≡ None → p ≡ parts_of m → letter_read blank p f ≡ m
   unfolding letter_read
-  read_is m p None e same = or_is m p (letter_parts p) refl same
+  read_is m p None e same = or_is m p (are_letter_parts p) refl same
   read_is m p (Some place) e same = some_none place e
 
   read_bad : (p : Parts B) (f : Option ℕ) (place : ℕ) → f ≡ Some place → letter_read blank p f ≡ blank_letter blank

@@ -1,4 +1,4 @@
--- The rows that a tape lends, one by one.
+-- The rows that a row buffer lends, one by one.
 use Rattle.std.proofs.Common.{◌≡◌, false, true, ℕ, zero, suc, ◌+◌, ◌-◌, ◌*◌, ◌^◌, min, cond, slice_get, is_some, Option, Some, None, Ok, Err, Result, OkIff, ⊎_elim, ◌<◌, ◌≤◌, Bool, inl, inr, add-one, List, [], ◌∷◌, length, get_or, take, drop, sym, refl, ap, ◌∙◌, subst, arith}
 use Rattle.std.proofs.lemmas.List.{drop-drop, take_all}
 use Rattle.std.proofs.lemmas.List.Sums.{count_by_more_no, count_by_more_yes, sum_by-cons}

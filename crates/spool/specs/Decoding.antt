@@ -9,11 +9,11 @@ use Rattle.records.specs.Records.{parts_written, wrong_byte}
 
 module _ {B : Type 0} where
   -- whether some letter has these parts
-  abbrev pub letter_parts : Parts B → Bool
-  letter_parts p = length p.stamp.entries == 16 && is_letter p
+  abbrev pub are_letter_parts : Parts B → Bool
+  are_letter_parts p = length p.stamp.entries == 16 && is_letter p
 
   -- the letter with these parts, and the blank one where there is none
-  unfoldable pub letter_or : B → (p : Parts B) (can : Bool) → letter_parts p ≡ can → Letter B
+  unfoldable pub letter_or : B → (p : Parts B) (can : Bool) → are_letter_parts p ≡ can → Letter B
   letter_or blank p true e =
       let both = and_parts (length p.stamp.entries == 16) (is_letter p) e in
       let rest = and_parts (nat_lt p.poster 16) (nat_lt 0 (entry_at p.stamp p.poster)) both.1 in
@@ -29,7 +29,7 @@ module _ {B : Type 0} where
 
   -- by what is wrong in the bytes that the parts were read from
   unfoldable pub letter_read : B → Parts B → Option ℕ → Letter B
-  letter_read blank p None = letter_or blank p (letter_parts p) refl
+  letter_read blank p None = letter_or blank p (are_letter_parts p) refl
   letter_read blank p (Some place) = blank_letter blank
 
   -- the letter of which the bytes are the record, and the blank one where there is none

@@ -7,9 +7,9 @@ use Rattle.letters.specs.Letters.{parts_of}
 use Rattle.carriers.specs.Appending.{Appends}
 use Rattle.carriers.specs.Lines.{lines_of, put_places, table_drawn, table_put}
 use Rattle.carriers.specs.LineLemmas.{lawful_lines, length_waiting}
-use Rattle.carriers.proofs.Decisions.{draw_ok, put_accepted, put_ok}
+use Rattle.carriers.proofs.Decisions.{draw_ok, no_refusal, put_accepted, put_ok}
 use Rattle.delivery.specs.Passing.{and_then, delivery_answer, first_answer, parts_by}
-use Rattle.delivery.proofs.Client.{SomeFor, after_yes, first_drawn, first_ok, on_no, pass_ok, passed, some_waits}
+use Rattle.delivery.proofs.Client.{SomeFor, after_yes, first_drawn, first_ok, pass_ok, passed, some_waits}
 use Rattle.delivery.proofs.over_lines.Goals as goal
 
 -- what holds anyway holds where the answer accepts
@@ -79,6 +79,6 @@ returns g c =
     record {
       answer = ends.0 ∙ same;
       filled = ends.1 ∙ ap (λ d. parts_by d (parts_of x) lent) same;
-      kept = on_no _ _ (ends.0 ∙ first_ok l.seats x.poster seat below here other);
+      kept = no_refusal _ _ (ends.0 ∙ first_ok l.seats x.poster seat below here other);
       table = after_ok c.draw.result _ (let is : c.places-1.given.0 ≡ c.draw.new.self.places.now = search rules in is ∙ whole);
     }

@@ -60,7 +60,7 @@ impl Default for Text {
     }
 }
 
-// The first byte at which these are no text.
+// The first byte at which these are not a text.
 fn first_wrong(bytes: &[u8]) -> Option<u8>
     ensures { result ≡ text_wrong bytes.now }
 {

@@ -102,8 +102,8 @@ impl Room {
         requires { seat < self.old.terms.count }
         ensures { state self.new ≡ with_seat (state self.old) seat (with_docket_event (seat_at (state self.old) seat) event) }
     {
-        let mut told = self.seats[seat as usize];
-        let _ = told.move_docket(event);
-        self.store_seat(seat, told);
+        let mut changed = self.seats[seat as usize];
+        let _ = changed.move_docket(event);
+        self.store_seat(seat, changed);
     }
 }

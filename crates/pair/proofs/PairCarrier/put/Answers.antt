@@ -1,6 +1,6 @@
 use Rattle.std.proofs.Common.{◌≡◌, ◌<◌, true, sym, ap, ◌∙◌, arith}
-use Rattle.carriers.proofs.Decisions.{put_ok}
-use Rattle.pair.proofs.Pairs.{on_no, once_both, put_joined}
+use Rattle.carriers.proofs.Decisions.{no_refusal, put_ok}
+use Rattle.pair.proofs.Pairs.{once_both, put_joined}
 use Rattle.pair.proofs.PairCarrier.put.Goals as goal
 
 pub returns : goal.returns
@@ -22,6 +22,6 @@ returns g c =
       once = once_both _ _ _ _ (one.answer ∙ put_ok m c.args.letter.now.poster (omega arith) fits₁) one.once two.once;
       first = both.2;
       second = two.leaves;
-      untouched = on_no _ _ (two.answer ∙ put_ok n c.args.letter.now.poster (omega arith) fits₂);
-      rests = on_no _ _ (two.answer ∙ put_ok n c.args.letter.now.poster (omega arith) fits₂);
+      untouched = no_refusal _ _ (two.answer ∙ put_ok n c.args.letter.now.poster (omega arith) fits₂);
+      rests = no_refusal _ _ (two.answer ∙ put_ok n c.args.letter.now.poster (omega arith) fits₂);
     }
