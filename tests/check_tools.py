@@ -334,10 +334,10 @@ class FirstRun:
         path.write_text(f"#!/bin/sh\n{text}\n", encoding="ascii")
         path.chmod(0o755)
 
-    def run(self, alone=False):
+    def run(self, *arguments, alone=False):
         """The status, the lines on standard output, and standard error."""
         path = f"{self.programs}" if alone else f"{self.programs}:{os.environ['PATH']}"
-        command = [shutil.which("bash"), str(self.top / "tools" / "first_run.sh")]
+        command = [shutil.which("bash"), str(self.top / "tools" / "first_run.sh"), *arguments]
         done = subprocess.run(command, cwd="/", env={"PATH": path}, capture_output=True, text=True, timeout=60)
         return done.returncode, done.stdout.split("\n"), done.stderr
 
@@ -359,6 +359,7 @@ def first_runs(folder):
     first.put("rt", FAILS)
     status, lines, error = first.run()
     yield "built already", (status, lines[-3:], error) == (0, ["72", "ran", ""], "") and "is built already" in lines[0]
+    yield "an argument", first.run("--help") == (1, [""], "first_run.sh: it takes no arguments\n")
     os.utime(first.top / "crates" / "low" / "src" / "lib.rt", (2**31, 2**31))
     yield "a file below is newer", first.run()[0] == 1
     (first.top / "crates" / "low" / "src" / "lib.rt").unlink()

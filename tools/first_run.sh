@@ -13,6 +13,7 @@ fail() {
   exit 1
 }
 
+[ $# -eq 0 ] || fail "it takes no arguments"
 here=${BASH_SOURCE[0]}
 cd "$([[ $here == */* ]] && echo "${here%/*}/.." || echo ..)" || fail "the top of the repository cannot be entered"
 sample=tests/samples/branch.txt

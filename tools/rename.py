@@ -5,7 +5,8 @@ usage: python3 tools/rename.py [ROOT]
 
 The lists below say what is turned. It works on the text alone: crates/, and in README.md and docs/ what stands between
 backticks. History stays as it is (docs/history). A second run finds nothing. `rt fmt` lays the files out afterwards, and
-`rt check` proves them. It prints how many words were turned, and each place where it left a name that it may have meant.
+`rt check` proves them. It prints how many words were turned, and what is to be looked at: names of today that stood there
+before, and places that bind a word that was turned.
 
 SPECS    definitions of specs/: `crate.Module: old new, old new`. A definition is turned where it stands and in every file that
          imports it from there, and no other word of its spelling is.
@@ -38,6 +39,7 @@ records.Reading: LeftBy PartsAfter
 records.Readers: Found Finding, found finding_of, left rest_of_file, ahead bytes_ahead
 carriers.Meaning: Kept UnchangedIfRefused, Lawful LawfulMeaning
 spool.SpoolLaws: no_rows no_rows_wait
+spool.Decoding: letter_parts are_letter_parts
 sheets.Sheets: Lawful LawfulKind, answered acceptance, left_by meaning_left
 sheets.JobLists sheet_kinds.JobLists: Listed JobListMeaning, listed_by job_list_of
 sheets.Timelines sheet_kinds.Timelines: Shown TimelineMeaning, shown_by timeline_of
@@ -129,6 +131,11 @@ rooms: tell store_seat, check_visit check_tables_and_seat, knows has_docket_out,
 rooms: note_docket record_docket_event, may_carry check_carrier
 lives rooms branch rooms_check: worked reachable, works stays_reachable, keeps guarantees, leads path
 causality lives: settled quiescent
+rooms_check: read_moves read_operations, read_move read_operation, print_replies print_responses, print_reply print_response
+rooms_check: no_replies no_responses, tell print_refusal
+sheets_check: text_said text_of, job_said job_of
+seats lives: told_seat written_seat
+lives: told-moment written
 *: worked_rooms_keep guarantees_hold
 """
 

@@ -17,7 +17,7 @@ next_step_index n = min (n + 1) (2 ^ 64 - 1)
 abbrev pub step_bytes : List ℕ → ℕ → List ℕ
 step_bytes bs i = take 8 (drop (i * 8) bs)
 
--- D is the session at which the steps are made, and `turns` says what a call at a seat does there, with its outcome
+-- D is the session in which the steps are made, and `turns` says what a call at a seat does there, with its outcome
 module _ {D : Type 0} (turns : ℕ → Call → D → Result Outcome Refusal → D → Type 0) where
   -- One step that was read from these bytes and made, with its line.
   pub record Stepped (bs : List ℕ) (index : ℕ) (before : List ℕ) (d : D) (lines : List ℕ) (d' : D) : Type 0 where

@@ -91,7 +91,7 @@ fn open_room<'l, 'h, 'q>(
     ensures reachable { Reachable [] (configuration_at lines_of result) }
 {
     let mut draft = Draft::new(1, 4);
-    // Names are any numbers but 0. A no would show at the opening.
+    // Names are any numbers but 0. A refusal would show at the opening.
     let _ = draft.enrol(1);
     let _ = draft.enrol(2);
     let _ = draft.enrol(3);

@@ -1,4 +1,4 @@
-// What a room responses.
+// What a room answers to a step.
 use letters::letter_id::LetterId;
 use seats::take_outcome::TakeOutcome;
 

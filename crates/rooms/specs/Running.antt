@@ -82,8 +82,8 @@ StepsGuarantee sheet carrier steps responses r logs holds c =
     Guarantees sheet.kind (steps_trace steps responses) (room_configuration carrier r logs holds c)
 
 -- and after each step of a run
-abbrev pub RunGuarantees : {K C B : Type 0} → sheets.Ghosts K B → Ghosts C B → Draft → List (Letter B) → List (Letter B) → C
+abbrev pub RunPromises : {K C B : Type 0} → sheets.Ghosts K B → Ghosts C B → Draft → List (Letter B) → List (Letter B) → C
     → List (Operation B DocketId) → StepResponses → Room → List (Letter B) → List (Letter B) → C → Type 0
-RunGuarantees sheet carrier d logs holds c steps responses r logs' holds' c' =
+RunPromises sheet carrier d logs holds c steps responses r logs' holds' c' =
     GuaranteedThroughout sheet.kind (opening_configuration carrier d logs holds c) (steps_trace steps responses)
     (room_configuration carrier r logs' holds' c')

@@ -3,7 +3,7 @@ ghost use Rattle.std.specs.Prelude.{◌≡◌, ◌≤◌, length, drop, Ok};
 ghost use Rattle.letters.specs.Refusals.{as_answer};
 ghost use Rattle.lives.specs.Guarantees.{AlwaysGuaranteed};
 ghost use Rattle.rooms.specs.Handing.{AreOut, dockets_left, dockets_out};
-ghost use Rattle.rooms.specs.Running.{RunCarries, RunGuarantees, RunPath, StepsCarry, StepsGuarantee, StepsPath, StepsReach, StepsServe, run_answer};
+ghost use Rattle.rooms.specs.Running.{RunCarries, RunPromises, RunPath, StepsCarry, StepsGuarantee, StepsPath, StepsReach, StepsServe, run_answer};
 ghost use Rattle.rooms.specs.States.{state};
 
 use crate::draft::Draft;
@@ -37,7 +37,7 @@ pub fn check<B: Body, C: Carrier<Body = B>>(
     draft.check_open(logs, holds, carrier)
 }
 
-// Opens the room, makes the steps in turn and writes down what each responses; of each seat whose docket is out in the end it
+// Opens the room, makes the steps in turn and writes down the response of each; of each seat whose docket is out in the end it
 // hands out the docket. Whatever the steps are, the room keeps causal order, complete delivery and convergence on every kind
 // of sheet, and did so after each step.
 pub fn run<B: Body, C: Carrier<Body = B>, K: Sheet<Body = B>>(
@@ -52,7 +52,7 @@ pub fn run<B: Body, C: Carrier<Body = B>, K: Sheet<Body = B>>(
     ensures path { RunPath C.Carrier draft logs.old holds.old carrier.old steps.now responses.new result.room logs.new holds.new carrier.new }
     ensures reachable { StepsReach C.Carrier steps.now responses.new result.room logs.new holds.new carrier.new }
     ensures guarantees { StepsGuarantee K.Sheet C.Carrier steps.now responses.new result.room logs.new holds.new carrier.new }
-    ensures throughout { RunGuarantees K.Sheet C.Carrier draft logs.old holds.old carrier.old steps.now responses.new result.room logs.new holds.new carrier.new }
+    ensures throughout { RunPromises K.Sheet C.Carrier draft logs.old holds.old carrier.old steps.now responses.new result.room logs.new holds.new carrier.new }
     ensures always { AlwaysGuaranteed K.Sheet.kind }
     ensures carrier { RunCarries C.Carrier draft logs.old holds.old carrier.old steps.now responses.new result.room logs.new holds.new carrier.new }
     ensures serves { StepsServe C.Carrier carrier.old steps.now responses.new carrier.new }

@@ -1,4 +1,4 @@
-// Runs a job room on a pair of lines and a spool, by steps of twelve bytes, and prints what each replied, the logs, and the
+// Runs a job room on a pair of lines and a spool, by steps of twelve bytes, and prints what each answered, the logs, and the
 // job list of each seat. With the argument `calls` it runs scripts of single calls instead.
 #![tactic(auto)]
 
@@ -135,16 +135,16 @@ fn no_responses(
     Ok(responses)
 }
 
-// Prints what each step replied, and the refusals of those that cannot be read between them.
+// Prints what each step answered, and the refusals of those that cannot be read between them.
 fn print_responses(
     rt: &HostRuntime,
     steps: &[u8],
     responses: &[Result<Response<DocketId>, Refusal>],
 ) -> io::Result<()> {
-    let mut replied = responses.iter();
+    let mut answered = responses.iter();
     for bytes in steps.chunks_exact(12) {
         let response = match read_operation(bytes) {
-            Ok(_) => *replied.next().unwrap_or(&Err(Refusal::TooShort)),
+            Ok(_) => *answered.next().unwrap_or(&Err(Refusal::TooShort)),
             Err(why) => Err(why),
         };
         match response {

@@ -6,7 +6,8 @@ use Rattle.sheets.proofs.Inserts.{placed_free, placed_length}
 use Rattle.sheets.proofs.Replacing.{placed_replaces, rising_with}
 use Rattle.sheet_kinds.specs.declared.open_job.OpenJob.{OpenJob}
 use Rattle.sheet_kinds.specs.JobLists.{is_other, with_job, without_job}
-use Rattle.sheet_kinds.specs.OpenJobs.{job_after, job_order}
+use Rattle.sheet_kinds.specs.KindLemmas.{job_order}
+use Rattle.sheet_kinds.specs.OpenJobs.{job_after}
 
 module _ (x : OpenJob) where
   -- another job stands before or after x

@@ -8,7 +8,8 @@ use Rattle.sheets.proofs.Orders.{placed_in_order}
 use Rattle.sheet_kinds.specs.declared.row.Row.{Row}
 use Rattle.sheet_kinds.specs.declared.timeline.Timeline.{Timeline}
 use Rattle.sheet_kinds.specs.declared.timeline.TheConstants.{PLACES}
-use Rattle.sheet_kinds.specs.RowOrder.{row_after, row_order}
+use Rattle.sheet_kinds.specs.KindLemmas.{row_order}
+use Rattle.sheet_kinds.specs.RowOrder.{row_after}
 
 pub rows_in_order : (rows : List Row) (new : Row) → in_order row_after rows ≡ true
     → in_order row_after (placed row_after rows new) ≡ true

@@ -11,7 +11,8 @@ use Rattle.letters.specs.Letters.{entry_at, number_of}
 use Rattle.letters.specs.Order.{SideBySide, covers}
 use Rattle.sheet_kinds.specs.declared.open_job.OpenJob.{OpenJob}
 use Rattle.sheet_kinds.specs.JobLists.{is_other, job_does, open_job, with_job, without_job}
-use Rattle.sheet_kinds.specs.OpenJobs.{job_after, job_is, job_order, jobs_differ}
+use Rattle.sheet_kinds.specs.KindLemmas.{job_order, jobs_differ}
+use Rattle.sheet_kinds.specs.OpenJobs.{job_after, job_is}
 use Rattle.sheets.specs.BesideLemmas.{beside_posters}
 use Rattle.sheets.specs.FilterLemmas.{kept_swap}
 use Rattle.sheets.specs.RowLemmas.{filter_with_row, with_row_swap}

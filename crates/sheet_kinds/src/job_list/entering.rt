@@ -5,7 +5,8 @@ ghost use Rattle.sheet_kinds.specs.JobLists.{CodesFollow, JobListMeaning, code_i
 ghost use Rattle.arrayvec.specs.ArrayVec.{array_vec_len};
 ghost use Rattle.sheets.specs.Sheets.{acceptance, enter_outcome, meaning_left};
 ghost use Rattle.sheets.specs.Placing.{rising};
-ghost use Rattle.sheet_kinds.specs.OpenJobs.{job_after, job_is, job_order};
+ghost use Rattle.sheet_kinds.specs.KindLemmas.{job_order};
+ghost use Rattle.sheet_kinds.specs.OpenJobs.{job_after, job_is};
 ghost use Rattle.sheet_kinds.specs.JobSwapLemmas.{jobs_swap};
 ghost use Rattle.sheet_kinds.specs.declared.job_list.TheConstants.{PLACES};
 
